@@ -1,0 +1,100 @@
+-- What the first jobs of a side move. Assumes nothing.
+use mathlib.Core.Path.{_≡_, sym, ap, _∙_, subst}
+use mathlib.Core.Bool.{Bool, true, false, cond}
+use mathlib.Core.List.{List}
+use Prim.Native.Nat.{ℕ, zero, suc, _+_, _*_, _-_, _/_, _%_, _≤_, _<_}
+use native.Mathlib.Nat.{mod-eq-of-lt, add-mod-right, add-assoc, add-zero, mod-lt, div-add-mod'}
+use native.Mathlib.Omega.{arith}
+use borrow.Author.Tests.{le-ltb, ne-eqb}
+use lib.Dec.{ltb}
+use lib.ListN.{length, getD}
+use Rattle.numbers.specs.Numbers.{sum}
+use Rattle.graph.specs.Rates.{listOf, placeIn, placeOf, rateOf}
+use Rattle.channel.specs.Side.{Side, Sound, rate, total, turn}
+use Rattle.numbers.proofs.Sums.{sum-zero, sum-suc, sum-ext, sum-split, sum-le}
+
+pub total-mono : (s : Side) (a b : ℕ) → a ≤ b → total s a ≤ total s b
+total-mono s = sum-le (rate s)
+
+pub total-bound : (s : Side) (b : ℕ) → ((j : ℕ) → rate s j ≤ b) → (m : ℕ) → total s m ≤ m * b
+total-bound s b h zero = omega (arith, sum-zero (rate s))
+total-bound s b h (suc m) = omega (arith, sum-suc (rate s) m, h m, total-bound s b h m)
+
+either : (t : Bool) (p c : List ℕ) (b i : ℕ) → getD p i 0 ≤ b → getD c i 0 ≤ b → getD (cond t p c) i 0 ≤ b
+either true p c b i h l = h
+either false p c b i h l = l
+
+pub rate-bound :
+    (s : Side) (b : ℕ) → ((i : ℕ) → getD (s .prefix) i 0 ≤ b) → ((i : ℕ) → getD (s .cycle) i 0 ≤ b) → (m : ℕ) → rate s m ≤ b
+unfolding rateOf listOf
+rate-bound s b h l m = either (ltb m (length (s .prefix))) (s .prefix) (s .cycle) b (placeOf (s .prefix) (s .cycle) m) (h (placeOf (s .prefix) (s .cycle) m)) (l (placeOf (s .prefix) (s .cycle) m))
+
+module _ (s : Side) (ok : Sound s) where
+  -- past the prefix
+  rate-cycle : (d : ℕ) → rate s (length (s .prefix) + d) ≡ getD (s .cycle) (d % length (s .cycle)) 0
+  unfolding rateOf listOf placeIn
+  rate-cycle d =
+      let e : length (s .prefix) + d - length (s .prefix) ≡ d = omega arith in
+      rw (
+        le-ltb (length (s .prefix) + d) (length (s .prefix)) (omega arith),
+        ne-eqb (length (s .cycle)) 0 (λ z. omega arith),
+        e,
+      )
+
+  rate-again : (d : ℕ) → rate s (length (s .prefix) + d + length (s .cycle)) ≡ rate s (length (s .prefix) + d)
+  rate-again d =
+      ap (rate s) (add-assoc (length (s .prefix)) d (length (s .cycle)))
+      ∙ rate-cycle (d + length (s .cycle))
+      ∙ ap (λ x. getD (s .cycle) x 0) (add-mod-right d (length (s .cycle)))
+      ∙ sym (rate-cycle d)
+
+  one-turn-from : (d : ℕ) → total s (length (s .prefix) + d + length (s .cycle)) ≡ total s (length (s .prefix) + d) + turn s
+  one-turn-from zero =
+      rw (add-zero (length (s .prefix)))
+      (sum-split (rate s) (length (s .prefix)) (length (s .cycle))
+      ∙ ap (λ x. total s (length (s .prefix)) + x)
+      (sum-ext (λ i. rate s (length (s .prefix) + i)) (λ i. getD (s .cycle) i 0) (length (s .cycle))
+      (λ j h. rate-cycle j ∙ ap (λ x. getD (s .cycle) x 0) (mod-eq-of-lt h))))
+  one-turn-from (suc d) =
+      let a : length (s .prefix) + suc d + length (s .cycle) ≡ suc (length (s .prefix) + d + length (s .cycle)) = omega arith in
+      let b : length (s .prefix) + suc d ≡ suc (length (s .prefix) + d) = omega arith in
+      rw (a, b)
+      (omega (
+        arith,
+        sum-suc (rate s) (length (s .prefix) + d + length (s .cycle)),
+        sum-suc (rate s) (length (s .prefix) + d),
+        rate-again d,
+        one-turn-from d,
+      ))
+
+  one-turn : (m : ℕ) → length (s .prefix) ≤ m → total s (m + length (s .cycle)) ≡ total s m + turn s
+  one-turn m h =
+      let e : length (s .prefix) + (m - length (s .prefix)) ≡ m = omega arith in
+      subst (λ x. total s (x + length (s .cycle)) ≡ total s x + turn s) e (one-turn-from (m - length (s .prefix)))
+
+  -- c turns of the cycle later
+  pub turns : (m c : ℕ) → length (s .prefix) ≤ m → total s (m + c * length (s .cycle)) ≡ total s m + c * turn s
+  turns m zero h = let e : m + 0 * length (s .cycle) ≡ m = omega arith in rw e (omega arith)
+  turns m (suc c) h =
+      ap (total s) (omega arith)
+      ∙ one-turn (m + c * length (s .cycle)) (omega arith)
+      ∙ omega (arith, turns m c h)
+
+  -- the sum as code computes it past the prefix: whole turns, and a part of one
+  pub total-closed : (m : ℕ) → length (s .prefix) ≤ m
+      → total s m
+      ≡ total s (length (s .prefix)) + (m - length (s .prefix)) / length (s .cycle) * turn s
+      + sum (λ i. getD (s .cycle) i 0) ((m - length (s .prefix)) % length (s .cycle))
+  total-closed m h =
+      let d : ℕ = m - length (s .prefix) in
+      let r : ℕ = d % length (s .cycle) in
+      let q : ℕ = d / length (s .cycle) in
+      let short : r < length (s .cycle) = mod-lt d (ok .some-rate) in
+      let part : total s (length (s .prefix) + r) ≡ total s (length (s .prefix)) + sum (λ i. getD (s .cycle) i 0) r =
+      sum-split (rate s) (length (s .prefix)) r
+      ∙ ap (λ x. total s (length (s .prefix)) + x)
+      (sum-ext (λ i. rate s (length (s .prefix) + i)) (λ i. getD (s .cycle) i 0) r
+      (λ j l. rate-cycle j ∙ ap (λ x. getD (s .cycle) x 0) (mod-eq-of-lt (omega arith)))) in
+      ap (total s) (omega (arith, div-add-mod' d (length (s .cycle))))
+      ∙ turns (length (s .prefix) + r) q (omega arith)
+      ∙ omega (arith, part)

@@ -1,0 +1,66 @@
+-- The verdicts on a channel: what each means, and how it is computed. Assumes nothing.
+use mathlib.Core.Bool.{Bool, cond}
+use Prim.Native.Nat.{ℕ, suc, _+_, _*_, _-_, _/_, _%_, min, _≤_, _<_, _∣_}
+use lib.Dec.{ltb, eqb}
+use lib.ListN.{length}
+use Rattle.numbers.specs.Numbers.{least}
+use Rattle.numbers.specs.Lists.{First}
+use Rattle.channel.specs.Side.{Side, release, total, turn, span, ended, jobs}
+use Rattle.channel.specs.Channel.{Channel, Balanced, Underflows, Overflows, Passes}
+
+-- L is the least common multiple of a and b.
+pub record IsLcm (a b L : ℕ) : Type 0 where
+  pub positive : 0 < L
+  pub left : a ∣ L
+  pub right : b ∣ L
+  pub at-most : (m : ℕ) → 0 < m → a ∣ m → b ∣ m → L ≤ m
+
+-- It is the first multiple of a that b divides.
+unfoldable pub lcm : ℕ → ℕ → ℕ
+lcm a b = suc (least (λ i. eqb (suc i * a % b) 0) (b - 1)) * a
+
+abbrev pub length-of : Channel → ℕ
+length-of ch = lcm (span (ch .producer)) (span (ch .consumer))
+
+abbrev pub TooLong : Channel → Type 0
+TooLong ch = 65536 < length-of ch / min (ch .producer .period) (ch .consumer .period)
+
+pub data Verdict : Type 0 where
+  fine too-full unbalanced too-long : Verdict
+  underflow overflow : ℕ → Verdict
+
+-- What each verdict says, over every job without end.
+abbrev pub Means : Channel → Verdict → Type 0
+Means ch fine = ¬ TooLong ch × Passes ch
+Means ch too-full = ch .size < ch .initial
+Means ch unbalanced = (ch .initial ≤ ch .size) × ¬ Balanced (ch .producer) (ch .consumer)
+Means ch too-long = (ch .initial ≤ ch .size) × Balanced (ch .producer) (ch .consumer) × TooLong ch
+Means ch (underflow k) =
+    (ch .initial ≤ ch .size) × Balanced (ch .producer) (ch .consumer) × ¬ TooLong ch × First (Underflows ch) k
+Means ch (overflow j) =
+    (ch .initial ≤ ch .size)
+    × Balanced (ch .producer) (ch .consumer)
+    × ¬ TooLong ch
+    × ((k : ℕ) → ¬ Underflows ch k)
+    × First (Overflows ch) j
+
+-- `Short` as a test, and the first job of the first `jobs` that it finds.
+abbrev pub short : Side → Side → ℕ → ℕ → Bool
+short taker giver stock k = ltb (stock + total giver (ended giver (release taker k))) (total taker (suc k))
+
+abbrev pub firstShort : ℕ → Side → Side → ℕ → ℕ
+firstShort L taker giver stock = least (short taker giver stock) (jobs L taker giver)
+
+unfoldable pub judge : Channel → Verdict
+judge ch =
+    let p : Side = ch .producer in
+    let c : Side = ch .consumer in
+    let L : ℕ = length-of ch in
+    let k : ℕ = firstShort L c p (ch .initial) in
+    let j : ℕ = firstShort L p c (ch .size - ch .initial) in
+    cond (ltb (ch .size) (ch .initial)) too-full
+    (cond (eqb (turn p * length (c .cycle) * c .period) (turn c * length (p .cycle) * p .period))
+    (cond (ltb 65536 (L / min (p .period) (c .period))) too-long
+    (cond (ltb k (jobs L c p)) (underflow k)
+    (cond (ltb j (jobs L p c)) (overflow j) fine)))
+    unbalanced)

@@ -1,0 +1,11 @@
+pub mod Numbers
+pub mod Records
+pub mod Front
+pub mod Reading
+pub mod Canon
+pub mod Build
+pub mod Formed
+pub mod Size
+pub mod Writing
+pub mod Steps
+pub mod Samples

@@ -1,0 +1,62 @@
+-- How a graph grows: other tasks, channels or relations, and one rate more. Assumes nothing.
+use mathlib.Core.Bool.{cond}
+use mathlib.Core.List.{List, [], _∷_, _++_}
+use Prim.Native.Nat.{ℕ, zero, suc}
+use lib.Dec.{eqb}
+use lib.ListN.{getD}
+use Rattle.graph.specs.declared.Task.{Task}
+use Rattle.graph.specs.declared.Relation.{Relation}
+use Rattle.graph.specs.Model.{Rates, Link, Graph, bare}
+
+-- a graph with other tasks, channels or relations
+abbrev pub with-tasks : Graph → List Task → Graph
+with-tasks g ts = record { tasks = ts; channels = g .channels; relations = g .relations }
+
+abbrev pub with-channels : Graph → List Link → Graph
+with-channels g cs = record { tasks = g .tasks; channels = cs; relations = g .relations }
+
+abbrev pub with-relations : Graph → List Relation → Graph
+with-relations g rs = record { tasks = g .tasks; channels = g .channels; relations = rs }
+
+-- Side 0 is production, 1 consumption; part 0 is prefix, 1 cycle.
+abbrev pub part-of : Rates → ℕ → List ℕ
+part-of r part = cond (eqb part 0) (r .prefix) (r .cycle)
+
+abbrev pub side-of : Link → ℕ → Rates
+side-of c side = cond (eqb side 0) (c .production) (c .consumption)
+
+abbrev pub list-of : Link → ℕ → ℕ → List ℕ
+list-of c side part = part-of (side-of c side) part
+
+abbrev pub entries : Graph → ℕ → ℕ → ℕ → List ℕ
+entries g channel side part = list-of (getD (g .channels) channel (bare 0 0 0 0)) side part
+
+-- One entry more at the end of a list of rates.
+abbrev pub push-part : Rates → ℕ → ℕ → Rates
+push-part r part x =
+    cond (eqb part 0)
+    (record { prefix = r .prefix ++ (x ∷ []); cycle = r .cycle })
+    (record { prefix = r .prefix; cycle = r .cycle ++ (x ∷ []) })
+
+abbrev pub with-rates : Link → Rates → Rates → Link
+with-rates c production consumption =
+    record {
+      producer = c .producer;
+      consumer = c .consumer;
+      initial = c .initial;
+      size = c .size;
+      production = production;
+      consumption = consumption;
+    }
+
+abbrev pub push : ℕ → ℕ → ℕ → Link → Link
+push side part x c =
+    cond (eqb side 0)
+    (with-rates c (push-part (c .production) part x) (c .consumption))
+    (with-rates c (c .production) (push-part (c .consumption) part x))
+
+-- The element at i changed by f.
+unfoldable pub change : {A : Type 0} → (A → A) → ℕ → List A → List A
+change f i [] = []
+change f zero (x ∷ xs) = f x ∷ xs
+change f (suc i) (x ∷ xs) = x ∷ change f i xs

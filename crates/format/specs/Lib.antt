@@ -1,0 +1,4 @@
+pub mod Growth
+pub mod Record
+pub mod Reader
+pub mod Writer

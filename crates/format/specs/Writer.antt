@@ -1,0 +1,90 @@
+-- The file of a graph, which graphs have one, and what a writer does. Assumes nothing.
+use mathlib.Core.Path.{_≡_}
+use mathlib.Core.Bool.{Bool, true, false, cond, _&&_}
+use mathlib.Core.Option.{Option, none, some}
+use mathlib.Core.List.{List, [], _∷_, _++_, map}
+use Prim.Native.Nat.{ℕ, suc, _≤_, _<_}
+use lib.Dec.{ltb, leb}
+use lib.ListN.{length, drop}
+use Rattle.numbers.specs.Lists.{All, all}
+use Rattle.graph.specs.Model.{Rates, Link, Graph, max-tasks, max-channels, max-relations, max-prefix, max-cycle}
+use Rattle.format.specs.Record.{Record, task, channel, rate, relation, encodes}
+use Rattle.format.specs.Reader.{holds, ranges, InRange, cycles, Whole, Reads, first-zero}
+
+-- the records of a graph in the order of a file
+abbrev pub head : Link → Record
+head c = channel (c .producer) (c .consumer) (c .initial) (c .size)
+
+abbrev pub rates-of : ℕ → Link → List Record
+rates-of i c =
+    map (rate i 0 0) (c .production .prefix)
+    ++ (map (rate i 0 1) (c .production .cycle)
+    ++ (map (rate i 1 0) (c .consumption .prefix)
+    ++ map (rate i 1 1) (c .consumption .cycle)))
+
+unfoldable pub rates-from : ℕ → List Link → List Record
+rates-from i [] = []
+rates-from i (c ∷ cs) = rates-of i c ++ rates-from (suc i) cs
+
+unfoldable pub records : Graph → List Record
+records g = map task (g .tasks) ++ (map head (g .channels) ++ (rates-from 0 (g .channels) ++ map relation (g .relations)))
+
+unfoldable pub bytes : Graph → List ℕ
+bytes g = encodes (records g)
+
+-- ---- the graphs that have a file
+
+pub record Few (r : Rates) : Type 0 where
+  pub prefix : length (r .prefix) ≤ max-prefix
+  pub cycle : length (r .cycle) ≤ max-cycle
+
+pub record FewRates (c : Link) : Type 0 where
+  pub production : Few (c .production)
+  pub consumption : Few (c .consumption)
+
+pub record Counts (g : Graph) : Type 0 where
+  pub tasks : length (g .tasks) ≤ max-tasks
+  pub channels : length (g .channels) ≤ max-channels
+  pub relations : length (g .relations) ≤ max-relations
+  pub rates : All FewRates (g .channels)
+
+pub record Formed (g : Graph) : Type 0 where
+  pub in-range : All (InRange g) (records g)
+  pub counts : Counts g
+  pub whole : Whole g
+
+-- the same as a test
+abbrev pub few : Rates → Bool
+few r = leb (length (r .prefix)) max-prefix && leb (length (r .cycle)) max-cycle
+
+abbrev pub is-none : Option ℕ → Bool
+is-none none = true
+is-none (some i) = false
+
+unfoldable pub formed : Graph → Bool
+formed g =
+    all (λ r. all holds (ranges g r)) (records g)
+    && (leb (length (g .tasks)) max-tasks
+    && (leb (length (g .channels)) max-channels
+    && (leb (length (g .relations)) max-relations
+    && (all (λ c. few (c .production) && few (c .consumption)) (g .channels)
+    && (ltb 0 (length (g .tasks))
+    && is-none (first-zero (cycles (g .channels))))))))
+
+-- ---- the writer
+
+pub data Wrote : Type 0 where
+  written : ℕ → Wrote
+  unformed : Wrote
+  short : ℕ → Wrote
+
+-- What each answer says of the output before and after.
+abbrev pub Writes : Graph → List ℕ → Wrote → List ℕ → Type 0
+Writes g out unformed after = ((file : List ℕ) → ¬ Reads file g) × (after ≡ out)
+Writes g out (short n) after = (file : List ℕ) × Reads file g × (length file ≡ n) × (length out < n) × (after ≡ out)
+Writes g out (written n) after = (file : List ℕ) × Reads file g × (length file ≡ n) × (n ≤ length out) × (after ≡ file ++ drop n out)
+
+unfoldable pub write : Graph → List ℕ → Wrote × List ℕ
+write g out =
+    let n : ℕ = length (bytes g) in
+    cond (formed g) (cond (leb n (length out)) (written n, bytes g ++ drop n out) (short n, out)) (unformed, out)

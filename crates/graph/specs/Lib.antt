@@ -1,0 +1,3 @@
+pub mod Rates
+pub mod Model
+pub mod Memory

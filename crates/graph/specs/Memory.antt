@@ -1,0 +1,80 @@
+-- A graph in memory, and the lists that it stands for. Assumes nothing.
+use mathlib.Core.List.{List, [], _++_, map}
+use Prim.Native.Nat.{ℕ, _-_}
+use lib.ListN.{length, take, replicate}
+use Rattle.graph.specs.declared.Side as side
+use Rattle.graph.specs.declared.Channel as channel
+use Rattle.graph.specs.declared.Graph as graph
+use Rattle.graph.specs.Model.{Rates, Link, Graph, empty, no-task, no-rates, bare, no-relation}
+
+-- the graph's own struct, and those of a channel and a side
+abbrev pub Memory : Type 0
+Memory = graph.Graph
+
+abbrev pub MemoryLink : Type 0
+MemoryLink = channel.Channel
+
+abbrev pub MemoryRates : Type 0
+MemoryRates = side.Side
+
+-- ---- from memory to lists: the first places, as many as the count says
+
+abbrev pub view-rates : MemoryRates → Rates
+view-rates s = record { prefix = take (s .plen) (s .prefix); cycle = take (s .clen) (s .cycle) }
+
+abbrev pub view-link : MemoryLink → Link
+view-link c =
+    record {
+      producer = c .producer;
+      consumer = c .consumer;
+      initial = c .initial;
+      size = c .size;
+      production = view-rates (c .production);
+      consumption = view-rates (c .consumption);
+    }
+
+unfoldable pub view : Memory → Graph
+view g =
+    record {
+      tasks = take (g .ntasks) (g .tasks);
+      channels = map view-link (take (g .nchannels) (g .channels));
+      relations = take (g .nrelations) (g .relations);
+    }
+
+-- ---- from lists to memory: places beyond a count hold zero
+
+-- n places that start with xs and hold z behind it
+unfoldable pub pad : {A : Type 0} → ℕ → A → List A → List A
+pad n z xs = xs ++ replicate (n - length xs) z
+
+abbrev pub laid-rates : Rates → MemoryRates
+laid-rates r = record { prefix = pad 16 0 (r .prefix); plen = length (r .prefix); cycle = pad 32 0 (r .cycle); clen = length (r .cycle) }
+
+abbrev pub laid-link : Link → MemoryLink
+laid-link c =
+    record {
+      producer = c .producer;
+      consumer = c .consumer;
+      initial = c .initial;
+      size = c .size;
+      production = laid-rates (c .production);
+      consumption = laid-rates (c .consumption);
+    }
+
+abbrev pub zero-link : MemoryLink
+zero-link = laid-link (bare 0 0 0 0)
+
+unfoldable pub laid : Graph → Memory
+laid g =
+    record {
+      tasks = pad 32 no-task (g .tasks);
+      ntasks = length (g .tasks);
+      channels = pad 64 zero-link (map laid-link (g .channels));
+      nchannels = length (g .channels);
+      relations = pad 64 no-relation (g .relations);
+      nrelations = length (g .relations);
+    }
+
+-- the graph that a refused file leaves
+abbrev pub emptyMemory : Memory
+emptyMemory = laid empty

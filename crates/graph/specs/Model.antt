@@ -1,0 +1,79 @@
+-- A graph as the rules speak of it: lists of tasks, channels and relations. Assumes nothing.
+use mathlib.Core.List.{List, []}
+use Prim.Native.Nat.{ℕ}
+use lib.IntN.{pos}
+use lib.ListN.{length, getD}
+use Rattle.graph.specs.declared.Task.{Task}
+use Rattle.graph.specs.declared.Relation.{Relation}
+
+-- the rates of one side of a channel
+pub record Rates : Type 0 where
+  pub prefix : List ℕ
+  pub cycle : List ℕ
+
+-- a channel
+pub record Link : Type 0 where
+  pub producer : ℕ
+  pub consumer : ℕ
+  pub initial : ℕ
+  pub size : ℕ
+  pub production : Rates
+  pub consumption : Rates
+
+pub record Graph : Type 0 where
+  pub tasks : List Task
+  pub channels : List Link
+  pub relations : List Relation
+
+abbrev pub empty : Graph
+empty = record { tasks = []; channels = []; relations = [] }
+
+-- The limits.
+abbrev pub max-tasks : ℕ
+max-tasks = 32
+
+abbrev pub max-channels : ℕ
+max-channels = 64
+
+abbrev pub max-relations : ℕ
+max-relations = 64
+
+abbrev pub max-prefix : ℕ
+max-prefix = 16
+
+abbrev pub max-cycle : ℕ
+max-cycle = 32
+
+abbrev pub million : ℕ
+million = 1000000
+
+-- What stands past the end of a list: all zero.
+abbrev pub no-task : Task
+no-task = record { period = 0; offset = 0; deadline = 0; worst = 0; priority = 0 }
+
+abbrev pub no-rates : Rates
+no-rates = record { prefix = []; cycle = [] }
+
+-- a channel that has no rates yet
+abbrev pub bare : ℕ → ℕ → ℕ → ℕ → Link
+bare producer consumer initial size =
+    record { producer = producer; consumer = consumer; initial = initial; size = size; production = no-rates; consumption = no-rates }
+
+abbrev pub no-relation : Relation
+no-relation = record { p = 0; q = 0; n = 0; phi = pos 0; d = 0 }
+
+-- The entries by their numbers.
+abbrev pub count : Graph → ℕ
+count g = length (g .tasks)
+
+abbrev pub task-of : List Task → ℕ → Task
+task-of ts i = getD ts i no-task
+
+unfoldable pub task : Graph → ℕ → Task
+task g i = task-of (g .tasks) i
+
+unfoldable pub link : Graph → ℕ → Link
+link g c = getD (g .channels) c (bare 0 0 0 0)
+
+unfoldable pub relation : Graph → ℕ → Relation
+relation g r = getD (g .relations) r no-relation

@@ -1,0 +1,9 @@
+pub mod Order
+pub mod Find
+pub mod Tests
+pub mod Exact
+pub mod Kept
+pub mod Runs
+pub mod Report
+pub mod Agree
+pub mod Load

@@ -1,0 +1,98 @@
+-- The reply and the report, computed. Assumes nothing.
+use mathlib.Core.Bool.{Bool, false, cond, not, _&&_}
+use mathlib.Core.List.{List, [], _∷_, _++_}
+use mathlib.Core.Option.{Option, none, some}
+use Prim.Native.Nat.{ℕ, zero, suc, _*_}
+use lib.Dec.{ltb, eqb}
+use lib.IntN.{ℤ, pos, negsuc, _-ℤ_, _*ℤ_}
+use lib.ListN.{length}
+use Rattle.channel.specs.Judge as channels
+use Rattle.numbers.specs.Numbers.{least}
+use Rattle.channel.specs.Judge.{Verdict, judge}
+use Rattle.graph.specs.declared.Relation.{Relation}
+use Rattle.graph.specs.Model.{Graph, count, task, relation}
+use Rattle.rules.specs.Terms.{response, channel}
+use Rattle.reply.specs.declared.Reply.{Reply}
+use Rattle.reply.specs.declared.Reply.the-variants.{Accepted, SamePriority, ShortReport, FalseRelation, Late, Overloaded, InitialAboveSize, Unbalanced, WindowTooLong, Underflow, Overflow}
+use Rattle.rules.specs.Rules.{load}
+
+abbrev pub eqbℤ : ℤ → ℤ → Bool
+eqbℤ (pos m) (pos n) = eqb m n
+eqbℤ (pos m) (negsuc n) = false
+eqbℤ (negsuc m) (pos n) = false
+eqbℤ (negsuc m) (negsuc n) = eqb m n
+
+unfoldable pub holds : Graph → Relation → Bool
+holds g r =
+    eqb (r .d * task g (r .p) .period) (r .n * task g (r .q) .period)
+    && eqbℤ (pos (r .n) *ℤ (pos (task g (r .q) .offset) -ℤ pos (task g (r .p) .offset))) (r .phi *ℤ pos (task g (r .p) .period))
+
+-- an earlier task has the priority of task i
+unfoldable pub seen : Graph → ℕ → Bool
+seen g i = ltb (least (λ j. eqb (task g j .priority) (task g i .priority)) i) i
+
+abbrev pub refusal : ℕ → Verdict → Option Reply
+refusal c channels.fine = none
+refusal c channels.too-full = some (InitialAboveSize c)
+refusal c channels.unbalanced = some (Unbalanced c)
+refusal c channels.too-long = some (WindowTooLong c)
+refusal c (channels.underflow k) = some (Underflow c k)
+refusal c (channels.overflow j) = some (Overflow c j)
+
+abbrev pub when : Bool → Reply → Option Reply
+when b r = cond b (some r) none
+
+abbrev pub or : Option Reply → Option Reply → Option Reply
+or none b = b
+or (some r) b = some r
+
+-- the first that one of the first n tests finds
+unfoldable pub first : (ℕ → Option Reply) → ℕ → Option Reply
+first f zero = none
+first f (suc n) = or (first f n) (f n)
+
+-- the tests of each stage
+abbrev pub same-priorities : Graph → Option Reply
+same-priorities g = first (λ i. when (seen g i) (SamePriority i)) (count g)
+
+abbrev pub short-reports : Graph → ℕ → Option Reply
+short-reports g room = when (ltb room (count g)) (ShortReport (count g))
+
+abbrev pub false-relations : Graph → Option Reply
+false-relations g = first (λ r. when (not (holds g (relation g r))) (FalseRelation r)) (length (g .relations))
+
+abbrev pub late-tasks : Graph → Option Reply
+late-tasks g = first (λ i. when (ltb (task g i .deadline) (response g i)) (Late i)) (count g)
+
+abbrev pub overload : Graph → Option Reply
+overload g = when (ltb 1_000_000 (load g)) Overloaded
+
+abbrev pub spoilt-channels : Graph → Option Reply
+spoilt-channels g = first (λ c. refusal c (judge (channel g c))) (length (g .channels))
+
+unfoldable pub found : Graph → ℕ → Option Reply
+found g room =
+    let a : Option Reply = same-priorities g in
+    let b : Option Reply = or a (short-reports g room) in
+    let c : Option Reply = or b (false-relations g) in
+    let d : Option Reply = or c (late-tasks g) in
+    let e : Option Reply = or d (overload g) in
+    or e (spoilt-channels g)
+
+abbrev pub given : Option Reply → ℕ → Reply
+given none n = Accepted n
+given (some r) n = r
+
+abbrev pub reply : Graph → ℕ → Reply
+reply g room = given (found g room) (count g)
+
+unfoldable pub listed : (ℕ → ℕ) → ℕ → List ℕ
+listed f zero = []
+listed f (suc n) = listed f n ++ (f n ∷ [])
+
+abbrev pub shown : Option Reply → List ℕ → List ℕ
+shown none l = l
+shown (some r) l = []
+
+abbrev pub report : Graph → ℕ → List ℕ
+report g room = shown (found g room) (listed (response g) (count g))

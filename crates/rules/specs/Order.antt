@@ -1,0 +1,23 @@
+-- The order of the tests. Assumes nothing.
+use mathlib.Core.Path.{_≡_}
+use mathlib.Core.List.{List, [], _∷_}
+use mathlib.Core.Logic.{_⊎_}
+use Prim.Native.Nat.{ℕ, min, _<_}
+use Rattle.reply.specs.declared.Reply.{Reply}
+use Rattle.reply.specs.Reply.{number, place, job}
+
+-- The order of the tests: 8 to 12 one after the other, each by place; then channel by channel 13 to 17; then by job.
+abbrev pub stage : Reply → ℕ
+stage r = min (number r) 13
+
+abbrev pub key : Reply → List ℕ
+key r = stage r ∷ place r ∷ number r ∷ job r ∷ []
+
+-- the first numbers that differ decide
+abbrev pub Sooner : List ℕ → List ℕ → Type 0
+Sooner [] ys = ⊥
+Sooner (x ∷ xs) [] = ⊥
+Sooner (x ∷ xs) (y ∷ ys) = (x < y) ⊎ ((x ≡ y) × Sooner xs ys)
+
+abbrev pub Earlier : Reply → Reply → Type 0
+Earlier r s = Sooner (key r) (key s)

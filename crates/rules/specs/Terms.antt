@@ -1,0 +1,68 @@
+-- The terms of the rules: a job's cost, who interferes, response times, windows, and the sides of a channel. Assumes nothing.
+use Prim.Native.Nat.{ℕ, suc, _≤_, _<_}
+use lib.Dec.{leb}
+use lib.ListN.{length}
+use Rattle.numbers.specs.Numbers.{least}
+use Rattle.machine.specs.Machine.{Tasks, demand}
+use Rattle.channel.specs.Side.{Side}
+use Rattle.channel.specs.Channel.{Channel}
+use Rattle.graph.specs.declared.Task.{Task}
+use Rattle.graph.specs.Model.{Rates, Link, Graph, count, task, link}
+
+-- ---- what is counted of a task
+
+-- the ticks that a job costs at most
+abbrev pub cost : Graph → ℕ → ℕ
+cost g i = task g i .worst
+
+-- the processor that it is bound to
+abbrev pub processor : Graph → ℕ → ℕ
+processor g i = 0
+
+-- the tasks as the machine runs them
+abbrev pub machine : Graph → Tasks
+machine g =
+    record {
+      count = count g;
+      processor = processor g;
+      period = λ i. task g i .period;
+      offset = λ i. task g i .offset;
+      deadline = λ i. task g i .deadline;
+      worst = cost g;
+      priority = λ i. task g i .priority;
+    }
+
+-- R of task i, or a number past its deadline if it is late
+unfoldable pub response : Graph → ℕ → ℕ
+response g i = suc (least (λ w. leb (demand (machine g) i (suc w)) (suc w)) (task g i .deadline))
+
+-- the ticks from a job's release to the end of its window
+abbrev pub window : Graph → ℕ → ℕ
+window g i = task g i .deadline
+
+-- task i as one side of a channel
+abbrev pub side : Graph → ℕ → Rates → Side
+side g i r = record { period = task g i .period; offset = task g i .offset; window = window g i; prefix = r .prefix; cycle = r .cycle }
+
+abbrev pub joined : Graph → Link → Channel
+joined g l = record { producer = side g (l .producer) (l .production); consumer = side g (l .consumer) (l .consumption); initial = l .initial; size = l .size }
+
+abbrev pub channel : Graph → ℕ → Channel
+channel g c = joined g (link g c)
+
+-- ---- what the reader has seen to
+
+pub record Timed (t : Task) : Type 0 where
+  pub some-deadline : 1 ≤ t .deadline
+  pub constrained : t .deadline ≤ t .period
+  pub some-work : 1 ≤ t .worst
+
+pub record Joined (g : Graph) (l : Link) : Type 0 where
+  pub producer-known : l .producer < count g
+  pub consumer-known : l .consumer < count g
+  pub some-put : 1 ≤ length (l .production .cycle)
+  pub some-take : 1 ≤ length (l .consumption .cycle)
+
+pub record Usable (g : Graph) : Type 0 where
+  pub timed : (i : ℕ) → i < count g → Timed (task g i)
+  pub ends : (c : ℕ) → c < length (g .channels) → Joined g (link g c)
