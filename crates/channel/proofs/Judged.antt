@@ -10,7 +10,9 @@ use lib.ListN.{length}
 use Rattle.numbers.specs.Lists.{First}
 use Rattle.channel.specs.Side.{Side, Sound, release, total, turn, span, ended, Short, jobs}
 use Rattle.channel.specs.Channel.{Channel, Balanced, Underflows, Overflows}
-use Rattle.channel.specs.Judge.{IsLcm, length-of, short, firstShort, Verdict, fine, too-full, unbalanced, too-long, underflow, overflow, Means, judge}
+use Rattle.channel.specs.declared.Verdict.{Verdict}
+use Rattle.channel.specs.declared.Verdict.the-variants.{Fine, InitialAboveSize, Unbalanced, WindowTooLong, Underflow, Overflow}
+use Rattle.channel.specs.Judge.{IsLcm, length-of, short, firstShort, Means, judge}
 use Rattle.numbers.proofs.Sums.{cases}
 use Rattle.channel.proofs.Periodic.{earlier, decided}
 use Rattle.numbers.proofs.Least.{least-is}
@@ -107,7 +109,7 @@ module _ (ch : Channel) (okp : Sound (ch .producer)) (okc : Sound (ch .consumer)
 
   by-tests :
       (a b c d e : Bool) → ltb (ch .size) (ch .initial) ≡ a → eqb x y ≡ b → ltb 65536 w ≡ c → ltb k ks ≡ d → ltb j js ≡ e
-      → Means ch (cond a too-full (cond b (cond c too-long (cond d (underflow k) (cond e (overflow j) fine))) unbalanced))
+      → Means ch (cond a InitialAboveSize (cond b (cond c WindowTooLong (cond d (Underflow k) (cond e (Overflow j) Fine))) Unbalanced))
   by-tests true b c d e ea eb ec ed ee = ltb-true (ch .size) (ch .initial) ea
   by-tests false false c d e ea eb ec ed ee = (ltb-false (ch .size) (ch .initial) ea, eqb-false x y eb)
   by-tests false true true d e ea eb ec ed ee = (ltb-false (ch .size) (ch .initial) ea, eqb-true x y eb, ltb-true 65536 w ec)
@@ -141,7 +143,7 @@ module _ (ch : Channel) (okp : Sound (ch .producer)) (okc : Sound (ch .consumer)
   -- and no other verdict is true of the channel
   pub means-judge : (v : Verdict) → Means ch v → judge ch ≡ v
   unfolding judge
-  means-judge fine m =
+  means-judge Fine m =
       let kn : ks ≤ k = is-none (ch .consumer) (ch .producer) L (ch .initial) (m .1 .no-underflow) in
       let jn : js ≤ j = is-none (ch .producer) (ch .consumer) L (ch .size - ch .initial) (λ i s. m .1 .no-overflow i (short-over ch i s)) in
       rw (
@@ -151,13 +153,13 @@ module _ (ch : Channel) (okp : Sound (ch .producer)) (okc : Sound (ch .consumer)
         le-ltb k ks kn,
         le-ltb j js jn,
       )
-  means-judge too-full m = rw (lt-ltb (ch .size) (ch .initial) m)
-  means-judge unbalanced m = rw (le-ltb (ch .size) (ch .initial) (m .0), ne-eqb x y (m .1))
-  means-judge too-long m = rw (le-ltb (ch .size) (ch .initial) (m .0), eq-eqb x y (m .1), lt-ltb 65536 w (m .2))
-  means-judge (underflow i) m =
+  means-judge InitialAboveSize m = rw (lt-ltb (ch .size) (ch .initial) m)
+  means-judge Unbalanced m = rw (le-ltb (ch .size) (ch .initial) (m .0), ne-eqb x y (m .1))
+  means-judge WindowTooLong m = rw (le-ltb (ch .size) (ch .initial) (m .0), eq-eqb x y (m .1), lt-ltb 65536 w (m .2))
+  means-judge (Underflow i) m =
       let u = is-under (m .1) i (m .3) in
       rw (le-ltb (ch .size) (ch .initial) (m .0), eq-eqb x y (m .1), le-ltb 65536 w (omega (arith, m .2)), u .1, lt-ltb i ks (u .0))
-  means-judge (overflow i) m =
+  means-judge (Overflow i) m =
       let o = is-over (m .0) (m .1) i (m .4) in
       let kn : ks ≤ k = is-none (ch .consumer) (ch .producer) L (ch .initial) (m .3) in
       rw (

@@ -5,6 +5,8 @@ use lib.Dec.{ltb, eqb}
 use lib.ListN.{length}
 use Rattle.numbers.specs.Numbers.{least}
 use Rattle.numbers.specs.Lists.{First}
+use Rattle.channel.specs.declared.Verdict.{Verdict}
+use Rattle.channel.specs.declared.Verdict.the-variants.{Fine, InitialAboveSize, Unbalanced, WindowTooLong, Underflow, Overflow}
 use Rattle.channel.specs.Side.{Side, release, total, turn, span, ended, jobs}
 use Rattle.channel.specs.Channel.{Channel, Balanced, Underflows, Overflows, Passes}
 
@@ -25,19 +27,15 @@ length-of ch = lcm (span (ch .producer)) (span (ch .consumer))
 abbrev pub TooLong : Channel → Type 0
 TooLong ch = 65536 < length-of ch / min (ch .producer .period) (ch .consumer .period)
 
-pub data Verdict : Type 0 where
-  fine too-full unbalanced too-long : Verdict
-  underflow overflow : ℕ → Verdict
-
 -- What each verdict says, over every job without end.
 abbrev pub Means : Channel → Verdict → Type 0
-Means ch fine = ¬ TooLong ch × Passes ch
-Means ch too-full = ch .size < ch .initial
-Means ch unbalanced = (ch .initial ≤ ch .size) × ¬ Balanced (ch .producer) (ch .consumer)
-Means ch too-long = (ch .initial ≤ ch .size) × Balanced (ch .producer) (ch .consumer) × TooLong ch
-Means ch (underflow k) =
+Means ch Fine = ¬ TooLong ch × Passes ch
+Means ch InitialAboveSize = ch .size < ch .initial
+Means ch Unbalanced = (ch .initial ≤ ch .size) × ¬ Balanced (ch .producer) (ch .consumer)
+Means ch WindowTooLong = (ch .initial ≤ ch .size) × Balanced (ch .producer) (ch .consumer) × TooLong ch
+Means ch (Underflow k) =
     (ch .initial ≤ ch .size) × Balanced (ch .producer) (ch .consumer) × ¬ TooLong ch × First (Underflows ch) k
-Means ch (overflow j) =
+Means ch (Overflow j) =
     (ch .initial ≤ ch .size)
     × Balanced (ch .producer) (ch .consumer)
     × ¬ TooLong ch
@@ -58,9 +56,9 @@ judge ch =
     let L : ℕ = length-of ch in
     let k : ℕ = firstShort L c p (ch .initial) in
     let j : ℕ = firstShort L p c (ch .size - ch .initial) in
-    cond (ltb (ch .size) (ch .initial)) too-full
+    cond (ltb (ch .size) (ch .initial)) InitialAboveSize
     (cond (eqb (turn p * length (c .cycle) * c .period) (turn c * length (p .cycle) * p .period))
-    (cond (ltb 65536 (L / min (p .period) (c .period))) too-long
-    (cond (ltb k (jobs L c p)) (underflow k)
-    (cond (ltb j (jobs L p c)) (overflow j) fine)))
-    unbalanced)
+    (cond (ltb 65536 (L / min (p .period) (c .period))) WindowTooLong
+    (cond (ltb k (jobs L c p)) (Underflow k)
+    (cond (ltb j (jobs L p c)) (Overflow j) Fine)))
+    Unbalanced)

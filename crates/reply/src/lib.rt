@@ -31,6 +31,12 @@ pub enum Reply {
     ShortOutput { needed: usize },
 }
 
+// What a search through numbered items finds: none that fails, or the first that does.
+pub enum Found {
+    Nothing,
+    At { index: usize },
+}
+
 // The numbers that document 01 gives a reply.
 pub struct Numbers {
     pub number: u32,

@@ -14,9 +14,10 @@ use lib.ListN.{length}
 use Rattle.machine.specs.Machine.{Tasks, demand, IsResponse}
 use Rattle.channel.specs.Side.{Sound}
 use Rattle.channel.specs.Channel.{Channel, Balanced, Underflows, Overflows}
-use Rattle.channel.specs.Judge as channels
+use Rattle.channel.specs.declared.Verdict.the-variants as channels
 use Rattle.numbers.specs.Numbers.{least}
-use Rattle.channel.specs.Judge.{TooLong, Verdict, Means, judge}
+use Rattle.channel.specs.declared.Verdict.{Verdict}
+use Rattle.channel.specs.Judge.{TooLong, Means, judge}
 use Rattle.numbers.proofs.Sums.{cases}
 use Rattle.numbers.proofs.Least.{least-is}
 use Rattle.channel.proofs.Exact.{passes-balanced}
@@ -141,15 +142,15 @@ before a k j (inr (x, inr (y, z))) = absurd z
 
 -- number and job of a verdict
 abbrev stands : Verdict → ℕ × ℕ
-stands channels.fine = (18, 0)
-stands channels.too-full = (13, 0)
-stands channels.unbalanced = (14, 0)
-stands channels.too-long = (15, 0)
-stands (channels.underflow k) = (16, k)
-stands (channels.overflow j) = (17, j)
+stands channels.Fine = (18, 0)
+stands channels.InitialAboveSize = (13, 0)
+stands channels.Unbalanced = (14, 0)
+stands channels.WindowTooLong = (15, 0)
+stands (channels.Underflow k) = (16, k)
+stands (channels.Overflow j) = (17, j)
 
 clear : (ch : Channel) → Sound (ch .producer) → Sound (ch .consumer) → (v : Verdict) → Means ch v → Clear ch (stands v .0) (stands v .1)
-clear ch p c channels.fine m =
+clear ch p c channels.Fine m =
     record {
       fits = λ x. m .1 .fits;
       balance = λ x. passes-balanced ch p c (m .1);
@@ -157,7 +158,7 @@ clear ch p c channels.fine m =
       no-under = λ k x. m .1 .no-underflow k;
       no-over = λ k x. m .1 .no-overflow k;
     }
-clear ch p c channels.too-full m =
+clear ch p c channels.InitialAboveSize m =
     record {
       fits = λ x. absurd (irreflexive (13 ∷ 0 ∷ []) x);
       balance = never 14 13 0 0 (omega arith);
@@ -165,7 +166,7 @@ clear ch p c channels.too-full m =
       no-under = λ k. never 16 13 k 0 (omega arith);
       no-over = λ k. never 17 13 k 0 (omega arith);
     }
-clear ch p c channels.unbalanced m =
+clear ch p c channels.Unbalanced m =
     record {
       fits = λ x. m .0;
       balance = λ x. absurd (irreflexive (14 ∷ 0 ∷ []) x);
@@ -173,7 +174,7 @@ clear ch p c channels.unbalanced m =
       no-under = λ k. never 16 14 k 0 (omega arith);
       no-over = λ k. never 17 14 k 0 (omega arith);
     }
-clear ch p c channels.too-long m =
+clear ch p c channels.WindowTooLong m =
     record {
       fits = λ x. m .0;
       balance = λ x. m .1;
@@ -181,7 +182,7 @@ clear ch p c channels.too-long m =
       no-under = λ k. never 16 15 k 0 (omega arith);
       no-over = λ k. never 17 15 k 0 (omega arith);
     }
-clear ch p c (channels.underflow i) m =
+clear ch p c (channels.Underflow i) m =
     record {
       fits = λ x. m .0;
       balance = λ x. m .1;
@@ -189,7 +190,7 @@ clear ch p c (channels.underflow i) m =
       no-under = λ k x. m .3 .1 k (before 16 k i x);
       no-over = λ k. never 17 16 k i (omega arith);
     }
-clear ch p c (channels.overflow i) m =
+clear ch p c (channels.Overflow i) m =
     record {
       fits = λ x. m .0;
       balance = λ x. m .1;
@@ -229,13 +230,13 @@ module _ (g : Graph) (room : ℕ) where
 
   verdict-finds : (c : ℕ) → c < length (g .channels) → (v : Verdict) → Means (channel g c) v → Clear (channel g c) (stands v .0) (stands v .1)
       → Finds g room (At 13 c) (refusal c v)
-  verdict-finds c l channels.fine m k = λ s d h.
+  verdict-finds c l channels.Fine m k = λ s d h.
       clear-refuses 18 0 s (d .0) h (subst (λ i. Clear (channel g i) 18 0) (sym (d .1)) k) (inl (omega (arith, known g room s h)))
-  verdict-finds c l channels.too-full m k = ((refl, refl), (l, m), clear-first c (InitialAboveSize c) refl refl k)
-  verdict-finds c l channels.unbalanced m k = ((refl, refl), (l, m .1), clear-first c (Unbalanced c) refl refl k)
-  verdict-finds c l channels.too-long m k = ((refl, refl), (l, m .2), clear-first c (WindowTooLong c) refl refl k)
-  verdict-finds c l (channels.underflow i) m k = ((refl, refl), (l, m .3 .0), clear-first c (Underflow c i) refl refl k)
-  verdict-finds c l (channels.overflow i) m k = ((refl, refl), (l, m .4 .0), clear-first c (Overflow c i) refl refl k)
+  verdict-finds c l channels.InitialAboveSize m k = ((refl, refl), (l, m), clear-first c (InitialAboveSize c) refl refl k)
+  verdict-finds c l channels.Unbalanced m k = ((refl, refl), (l, m .1), clear-first c (Unbalanced c) refl refl k)
+  verdict-finds c l channels.WindowTooLong m k = ((refl, refl), (l, m .2), clear-first c (WindowTooLong c) refl refl k)
+  verdict-finds c l (channels.Underflow i) m k = ((refl, refl), (l, m .3 .0), clear-first c (Underflow c i) refl refl k)
+  verdict-finds c l (channels.Overflow i) m k = ((refl, refl), (l, m .4 .0), clear-first c (Overflow c i) refl refl k)
 
   -- ---- all tests
 

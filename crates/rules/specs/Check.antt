@@ -6,9 +6,10 @@ use Prim.Native.Nat.{ℕ, zero, suc, _*_}
 use lib.Dec.{ltb, eqb}
 use lib.IntN.{ℤ, pos, negsuc, _-ℤ_, _*ℤ_}
 use lib.ListN.{length}
-use Rattle.channel.specs.Judge as channels
+use Rattle.channel.specs.declared.Verdict.the-variants as channels
 use Rattle.numbers.specs.Numbers.{least}
-use Rattle.channel.specs.Judge.{Verdict, judge}
+use Rattle.channel.specs.declared.Verdict.{Verdict}
+use Rattle.channel.specs.Judge.{judge}
 use Rattle.graph.specs.declared.Relation.{Relation}
 use Rattle.graph.specs.Model.{Graph, count, task, relation}
 use Rattle.rules.specs.Terms.{response, channel}
@@ -32,12 +33,12 @@ unfoldable pub seen : Graph → ℕ → Bool
 seen g i = ltb (least (λ j. eqb (task g j .priority) (task g i .priority)) i) i
 
 abbrev pub refusal : ℕ → Verdict → Option Reply
-refusal c channels.fine = none
-refusal c channels.too-full = some (InitialAboveSize c)
-refusal c channels.unbalanced = some (Unbalanced c)
-refusal c channels.too-long = some (WindowTooLong c)
-refusal c (channels.underflow k) = some (Underflow c k)
-refusal c (channels.overflow j) = some (Overflow c j)
+refusal c channels.Fine = none
+refusal c channels.InitialAboveSize = some (InitialAboveSize c)
+refusal c channels.Unbalanced = some (Unbalanced c)
+refusal c channels.WindowTooLong = some (WindowTooLong c)
+refusal c (channels.Underflow k) = some (Underflow c k)
+refusal c (channels.Overflow j) = some (Overflow c j)
 
 abbrev pub when : Bool → Reply → Option Reply
 when b r = cond b (some r) none
