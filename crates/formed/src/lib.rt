@@ -1,0 +1,1 @@
+// Whether a graph in memory is one that some file reads as.
