@@ -7,3 +7,4 @@ pub mod Runs
 pub mod Report
 pub mod Agree
 pub mod Load
+pub mod Given

@@ -4,3 +4,4 @@ pub mod Rules
 pub mod Check
 pub mod Execution
 pub mod Agree
+pub mod Given

@@ -26,13 +26,25 @@ pub record Holds (g : Graph) (r : Relation) : Type 0 where
 unfoldable pub load : Graph → ℕ
 load g = sum (λ i. cost g i * 1_000_000 / task g i .period) (count g)
 
+-- task i has a priority seen before
+abbrev pub Repeats : Graph → ℕ → Type 0
+Repeats g i = (j : ℕ) × (j < i) × (task g j .priority ≡ task g i .priority)
+
+-- relation r is false
+abbrev pub Fails : Graph → ℕ → Type 0
+Fails g r = ¬ Holds g (relation g r)
+
+-- task i is late: no w from 1 to its deadline is at least its demand
+abbrev pub Misses : Graph → ℕ → Type 0
+Misses g i = (w : ℕ) → 1 ≤ w → w ≤ task g i .deadline → w < demand (machine g) i w
+
 -- The reply is true of the graph as a refusal. Each is stated by itself, whatever the other tests find.
 abbrev pub Refuses : Graph → ℕ → Reply → Type 0
 Refuses g room (Accepted n) = ⊥
-Refuses g room (SamePriority i) = (i < count g) × ((j : ℕ) × (j < i) × (task g j .priority ≡ task g i .priority))
+Refuses g room (SamePriority i) = (i < count g) × Repeats g i
 Refuses g room (ShortReport n) = (n ≡ count g) × (room < count g)
-Refuses g room (FalseRelation r) = (r < length (g .relations)) × ¬ Holds g (relation g r)
-Refuses g room (Late i) = (i < count g) × ((w : ℕ) → 1 ≤ w → w ≤ task g i .deadline → w < demand (machine g) i w)
+Refuses g room (FalseRelation r) = (r < length (g .relations)) × Fails g r
+Refuses g room (Late i) = (i < count g) × Misses g i
 Refuses g room Overloaded = 1_000_000 < load g
 Refuses g room (InitialAboveSize c) = (c < length (g .channels)) × (link g c .size < link g c .initial)
 Refuses g room (Unbalanced c) = (c < length (g .channels)) × ¬ Balanced (channel g c .producer) (channel g c .consumer)
