@@ -14,21 +14,9 @@ use Rattle.reply.specs.declared.Reply.the-variants.{Accepted, SamePriority, Sho
 use Rattle.reply.specs.Reply.{number, place, job}
 use Rattle.rules.specs.Order.{stage, key, Earlier}
 use Rattle.rules.specs.Rules.{Refuses, Replies, passes, fails}
+use Rattle.rules.specs.Stages.{At, Below, Upto, In, Earliest}
 use Rattle.rules.specs.Check.{when, or, first, given}
 use Rattle.rules.proofs.Order.{named, named-at, irreflexive}
-
--- the replies of one stage and place, of one stage and the places below m, and of the stages below n
-abbrev pub At : ℕ → ℕ → Reply → Type 0
-At n i s = (stage s ≡ n) × (place s ≡ i)
-
-abbrev pub Below : ℕ → ℕ → Reply → Type 0
-Below n m s = (stage s ≡ n) × (place s < m)
-
-abbrev pub Upto : ℕ → Reply → Type 0
-Upto n s = stage s < n
-
-abbrev pub In : ℕ → Reply → Type 0
-In n s = stage s ≡ n
 
 -- before the channels a stage has one kind of reply
 pub kind : (n : ℕ) (s : Reply) → n < 13 → In n s → s ≡ named n (place s) (job s)
@@ -58,26 +46,21 @@ module _ (g : Graph) (room : ℕ) where
   known NoFile h = absurd h
   known (ShortOutput x) h = absurd h
 
-  -- what is found is the earliest refusal of those in D
-  abbrev pub Finds : (Reply → Type 0) → Option Reply → Type 0
-  Finds D none = (s : Reply) → D s → ¬ Refuses g room s
-  Finds D (some r) = D r × Refuses g room r × ((s : Reply) → D s → Refuses g room s → ¬ Earlier s r)
-
   -- one test, of the one refusal that D can have
   pub when-finds : (D : Reply → Type 0) (b : Bool) (r : Reply) → D r → (b ≡ true → Refuses g room r)
       → ((s : Reply) → D s → Refuses g room s → (s ≡ r) × (b ≡ true))
-      → Finds D (when b r)
+      → Earliest g room D (when b r)
   when-finds D true r d yes-it only = (d, yes-it refl, λ s ds h x. irreflexive (key r) (subst (λ y. Earlier y r) (only s ds h .0) x))
   when-finds D false r d yes-it only = λ s ds h. let e = only s ds h .1 in let z : _≡_ {A = ℕ} 0 1 = cc in absurd (omega arith)
 
   -- a search that finds nothing leaves it to the next
   or-finds : (D E F : Reply → Type 0) → ((s : Reply) → F s → D s ⊎ E s) → ((s : Reply) → D s → F s) → ((s : Reply) → E s → F s)
-      → ((r s : Reply) → D r → E s → ¬ Earlier s r) → (a b : Option Reply) → Finds D a → Finds E b → Finds F (or a b)
+      → ((r s : Reply) → D r → E s → ¬ Earlier s r) → (a b : Option Reply) → Earliest g room D a → Earliest g room E b → Earliest g room F (or a b)
   or-finds D E F part df ef after none none a b = λ s f h. ⊎-elim (λ d. a s d h) (λ e. b s e h) (part s f)
   or-finds D E F part df ef after none (some r) a (e, h, l) = (ef r e, h, λ s f k x. ⊎-elim (λ d. a s d k) (λ e′. l s e′ k x) (part s f))
   or-finds D E F part df ef after (some r) b (d, h, l) c = (df r d, h, λ s f k x. ⊎-elim (λ d′. l s d′ k x) (λ e. after r s d e x) (part s f))
 
-  first-finds : (n : ℕ) (f : ℕ → Option Reply) (m : ℕ) → ((i : ℕ) → i < m → Finds (At n i) (f i)) → Finds (Below n m) (first f m)
+  first-finds : (n : ℕ) (f : ℕ → Option Reply) (m : ℕ) → ((i : ℕ) → i < m → Earliest g room (At n i) (f i)) → Earliest g room (Below n m) (first f m)
   unfolding first
   first-finds n f zero h = λ s d k. absurd (omega (arith, d .1))
   first-finds n f (suc m) h =
@@ -94,11 +77,11 @@ module _ (g : Graph) (room : ℕ) where
 
   -- a stage whose refusals have places below m
   pub stage-finds : (n m : ℕ) (f : ℕ → Option Reply) → ((s : Reply) → In n s → Refuses g room s → place s < m)
-      → ((i : ℕ) → i < m → Finds (At n i) (f i))
-      → Finds (In n) (first f m)
+      → ((i : ℕ) → i < m → Earliest g room (At n i) (f i))
+      → Earliest g room (In n) (first f m)
   stage-finds n m f few h = go (first f m) (first-finds n f m h)
     where
-      go : (o : Option Reply) → Finds (Below n m) o → Finds (In n) o
+      go : (o : Option Reply) → Earliest g room (Below n m) o → Earliest g room (In n) o
       go none k = λ s e x. k s (e, few s e x) x
       go (some r) (d, x, l) = (d .0, x, λ s e y. l s (e, few s e y) y)
 
@@ -107,7 +90,7 @@ module _ (g : Graph) (room : ℕ) where
       → ((s : Reply) → In n s → Refuses g room s → s ≡ r (place s))
       → ((i : ℕ) → Refuses g room (r i) → i < m)
       → ((i : ℕ) → i < m → (b i ≡ true) ↔ Refuses g room (r i))
-      → Finds (In n) (first (λ i. when (b i) (r i)) m)
+      → Earliest g room (In n) (first (λ i. when (b i) (r i)) m)
   tests-find n m b r here is few iff =
       stage-finds n m (λ i. when (b i) (r i)) (λ s e h. few (place s) (subst (Refuses g room) (is s e h) h))
       (λ i k.
@@ -115,7 +98,7 @@ module _ (g : Graph) (room : ℕ) where
       (λ s d h. let q : s ≡ r i = is s (d .0) h ∙ ap r (d .1) in (q, iff i k .1 (subst (Refuses g room) q h))))
 
   -- stage after stage
-  pub next-finds : (n : ℕ) (a b : Option Reply) → Finds (Upto n) a → Finds (In n) b → Finds (Upto (suc n)) (or a b)
+  pub next-finds : (n : ℕ) (a b : Option Reply) → Earliest g room (Upto n) a → Earliest g room (In n) b → Earliest g room (Upto (suc n)) (or a b)
   next-finds n = or-finds (Upto n) (In n) (Upto (suc n)) part (λ s d. omega (arith, d)) (λ s d. omega (arith, d)) after
     where
       part : (s : Reply) → Upto (suc n) s → Upto n s ⊎ In n s
@@ -125,9 +108,9 @@ module _ (g : Graph) (room : ℕ) where
       after r s d e (inl x) = omega arith
       after r s d e (inr (x, y)) = omega arith
 
-  pub nothing : Finds (Upto 8) none
+  pub nothing : Earliest g room (Upto 8) none
   nothing s l h = omega (arith, known s h)
 
-  pub given-replies : (o : Option Reply) → Finds (Upto 14) o → Replies g room (given o (count g))
+  pub given-replies : (o : Option Reply) → Earliest g room (Upto 14) o → Replies g room (given o (count g))
   given-replies none f = passes (λ s h. f s (omega arith) h)
   given-replies (some r) (d, h, l) = fails r h (λ s k. l s (omega arith) k)

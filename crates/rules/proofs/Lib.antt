@@ -8,3 +8,4 @@ pub mod Report
 pub mod Agree
 pub mod Load
 pub mod Given
+pub mod Found

@@ -17,7 +17,8 @@ use Rattle.reply.specs.Reply.{number}
 use Rattle.rules.specs.Rules.{Reports, Answers}
 use Rattle.rules.specs.Check.{found, given, reply, listed, shown, report}
 use Rattle.rules.proofs.Order.{determined}
-use Rattle.rules.proofs.Find.{Upto, known, Finds, given-replies}
+use Rattle.rules.specs.Stages.{Upto, Earliest}
+use Rattle.rules.proofs.Find.{known, given-replies}
 use Rattle.rules.proofs.Tests.{figure, response-unique, finds, replies}
 use Rattle.rules.proofs.Kept.{unrefused, punctual}
 
@@ -36,7 +37,7 @@ listed-at f (suc n) i h =
     ap (λ x. getD (listed f n ++ (f n ∷ [])) x 0) (sym e) ∙ getD-append-add (listed f n) (f n ∷ []) 0 0) i h
 
 module _ (g : Graph) (room : ℕ) where
-  shown-reports : Usable g → (o : Option Reply) → Finds g room (Upto 14) o → Reports g (given o (count g)) (shown o (listed (response g) (count g)))
+  shown-reports : Usable g → (o : Option Reply) → Earliest g room (Upto 14) o → Reports g (given o (count g)) (shown o (listed (response g) (count g)))
   shown-reports ok none f =
       let n = length-listed (response g) (count g) in
       record {

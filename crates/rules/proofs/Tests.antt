@@ -32,7 +32,8 @@ use Rattle.rules.specs.Order.{Sooner, Earlier}
 use Rattle.rules.specs.Rules.{Holds, load, Refuses, Replies}
 use Rattle.rules.specs.Check.{eqbℤ, holds, seen, refusal, or, same-priorities, short-reports, false-relations, late-tasks, overload, spoilt-channels, found, reply}
 use Rattle.rules.proofs.Order.{irreflexive}
-use Rattle.rules.proofs.Find.{At, Upto, In, kind, known, Finds, when-finds, stage-finds, tests-find, next-finds, nothing, given-replies}
+use Rattle.rules.specs.Stages.{At, Upto, In, Earliest}
+use Rattle.rules.proofs.Find.{kind, known, when-finds, stage-finds, tests-find, next-finds, nothing, given-replies}
 
 -- ---- tests and what they mean
 
@@ -229,7 +230,7 @@ module _ (g : Graph) (room : ℕ) where
   clear-first c r p q k s d h (inr (x, inr (y, z))) = clear-refuses (number r) (job r) s (d .0) h (subst (λ i. Clear (channel g i) (number r) (job r)) (sym (d .1)) k) z
 
   verdict-finds : (c : ℕ) → c < length (g .channels) → (v : Verdict) → Means (channel g c) v → Clear (channel g c) (stands v .0) (stands v .1)
-      → Finds g room (At 13 c) (refusal c v)
+      → Earliest g room (At 13 c) (refusal c v)
   verdict-finds c l channels.Fine m k = λ s d h.
       clear-refuses 18 0 s (d .0) h (subst (λ i. Clear (channel g i) 18 0) (sym (d .1)) k) (inl (omega (arith, known g room s h)))
   verdict-finds c l channels.InitialAboveSize m k = ((refl, refl), (l, m), clear-first c (InitialAboveSize c) refl refl k)
@@ -250,7 +251,7 @@ module _ (g : Graph) (room : ℕ) where
     pub sound-consumer : (c : ℕ) → c < length (g .channels) → Sound (channel g c .consumer)
     sound-consumer c l = let j = ok .ends c l in sound-side (link g c .consumer) (link g c .consumption) (j .consumer-known) (j .some-take)
 
-    pub finds : Finds g room (Upto 14) (found g room)
+    pub finds : Earliest g room (Upto 14) (found g room)
     unfolding found
     finds =
         let a : Option Reply = same-priorities g in

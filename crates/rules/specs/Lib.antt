@@ -1,7 +1,9 @@
 pub mod Terms
 pub mod Order
 pub mod Rules
+pub mod Stages
 pub mod Check
 pub mod Execution
 pub mod Agree
 pub mod Given
+pub mod Files
