@@ -9,3 +9,4 @@ pub mod Size
 pub mod Writing
 pub mod Steps
 pub mod Samples
+pub mod Ranges

@@ -5,7 +5,8 @@ use mathlib.Core.List.{List, [], _∷_, _++_, map}
 use Prim.Native.Nat.{ℕ, zero, suc, _≤_, _<_}
 use native.Mathlib.Nat.{lt-of-not-le}
 use native.Mathlib.Decide.{decLe}
-use lib.ListN.{take, drop}
+use native.Mathlib.Omega.{arith}
+use lib.ListN.{length, getD, take, drop}
 use Rattle.numbers.specs.Lists.{All, all}
 
 module _ {A : Type 0} (P : A → Type 0) where
@@ -35,6 +36,16 @@ module _ {A : Type 0} (P : A → Type 0) where
   all-map Q f [] h = tt
   all-map Q f (x ∷ xs) h = (f x (h .0), all-map Q f xs (h .1))
 
+  -- the element at each place below the length, and back
+  pub all-at : (xs : List A) (d : A) → All P xs → (i : ℕ) → i < length xs → P (getD xs i d)
+  all-at [] d h i l = absurd (omega arith)
+  all-at (x ∷ xs) d h zero l = h .0
+  all-at (x ∷ xs) d h (suc i) l = all-at xs d (h .1) i (omega arith)
+
+  pub at-all : (xs : List A) (d : A) → ((i : ℕ) → i < length xs → P (getD xs i d)) → All P xs
+  at-all [] d h = tt
+  at-all (x ∷ xs) d h = (h 0 (omega arith), at-all xs d (λ i l. h (suc i) (omega arith)))
+
   -- a test of each
   module _ (p : A → Bool) where
     pub all-yes : ((x : A) → p x ≡ true → P x) → (xs : List A) → all p xs ≡ true → All P xs
@@ -48,6 +59,10 @@ module _ {A : Type 0} (P : A → Type 0) where
     pub yes-all : ((x : A) → P x → p x ≡ true) → (xs : List A) → All P xs → all p xs ≡ true
     yes-all f [] h = refl
     yes-all f (x ∷ xs) h = rw (f x (h .0)) (yes-all f xs (h .1))
+
+pub map-of-all : {A B : Type 0} (P : B → Type 0) (f : A → B) (xs : List A) → All (λ x. P (f x)) xs → All P (map f xs)
+map-of-all P f [] h = tt
+map-of-all P f (x ∷ xs) h = (h .0, map-of-all P f xs (h .1))
 
 pub all-of-map : {A B : Type 0} (P : B → Type 0) (f : A → B) (xs : List A) → All P (map f xs) → All (λ x. P (f x)) xs
 all-of-map P f [] h = tt

@@ -9,3 +9,4 @@ pub mod Agree
 pub mod Load
 pub mod Given
 pub mod Found
+pub mod Usable
