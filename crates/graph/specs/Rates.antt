@@ -1,7 +1,7 @@
 -- Rates: the list that the rate of job m stands in, its place there, and the rate. Jobs count from 0. Assumes nothing.
 use mathlib.Core.Bool.{cond}
 use mathlib.Core.List.{List}
-use Prim.Native.Nat.{ℕ, _-_, _%_}
+use Prim.Native.Nat.{ℕ, _+_, _-_, _%_}
 use lib.Dec.{ltb, eqb}
 use lib.ListN.{length, getD}
 
@@ -18,3 +18,7 @@ placeOf prefix cycle m = placeIn (length prefix) (length cycle) m
 
 unfoldable pub rateOf : List ℕ → List ℕ → ℕ → ℕ
 rateOf prefix cycle m = getD (listOf prefix cycle m) (placeOf prefix cycle m) 0
+
+-- the place that follows place i of a list of n entries: the next, or the first of the cycle
+abbrev pub nextPlace : ℕ → ℕ → ℕ
+nextPlace n i = cond (ltb (i + 1) n) (i + 1) 0

@@ -1,9 +1,9 @@
 // A graph in memory: its types, its limits, and the lookup of a job's rate.
 ghost use mathlib.Core.Path.{_≡_};
-ghost use Prim.Native.Nat.{ℕ, _≤_};
+ghost use Prim.Native.Nat.{ℕ, _≤_, _<_};
 ghost use lib.ListN.{length};
 ghost use Rattle.graph.specs.Memory.{emptyMemory};
-ghost use Rattle.graph.specs.Rates.{listOf, placeIn, rateOf};
+ghost use Rattle.graph.specs.Rates.{listOf, placeIn, rateOf, nextPlace};
 
 // A periodic task. Times are ticks; priority 1 is the highest.
 pub struct Task {
@@ -153,6 +153,15 @@ pub fn place_at(plen: usize, clen: usize, m: u64) -> usize
     } else {
         0
     }
+}
+
+// The place of the next job's rate, from the length of this job's list and the place there: no division.
+pub fn next_place(len: usize, place: usize) -> usize
+    requires { ⌜ place < len ⌝ }
+    ensures { λ r. ⌜ r ≡ nextPlace len place ⌝ }
+{
+    let next = place + 1;
+    if next < len { next } else { 0 }
 }
 
 // The rate of job m; 0 past the prefix of a side whose cycle is empty.
