@@ -12,8 +12,11 @@ use Rattle.graph.specs.Model.{Rates, Link, Graph, count, task, link}
 -- ---- what is counted of a task
 
 -- the ticks that a job costs at most
+abbrev pub cost-of : Task → ℕ
+cost-of t = t .worst
+
 abbrev pub cost : Graph → ℕ → ℕ
-cost g i = task g i .worst
+cost g i = cost-of (task g i)
 
 -- the processor that it is bound to
 abbrev pub processor : Graph → ℕ → ℕ
