@@ -90,8 +90,8 @@ module _ (ts : Tasks) (cpu : ℕ) (needs : ℕ → ℕ → ℕ) where
 
     allowed : (t : ℕ) (s : Slot) → Least (Ready (sofar t) t) (ts .priority) (suc t) (ts .count) s → May ts cpu needs plan t s
     allowed t idle c = λ i k u. let (p, h) = to-ready t i k u in c i (u .mine .counted) k h p
-    allowed t (job i k) (q, c) = record { ready = of-ready t i k q; least = λ j l u. let (p, h) = to-ready t j l u in c j (u .mine .counted) l h p }
+    allowed t (job i k) (q, c) = record { ready = of-ready t i k q; least = λ j l u. let (p, h) = to-ready t j l u in omega (arith, c j (u .mine .counted) l h p) }
 
     pub exists : ((i k : ℕ) → Mine ts cpu i → (1 ≤ needs i k) × (needs i k ≤ ts .worst i)) → (runs : ℕ → Slot) × Legal ts cpu needs runs
     unfolding plan
-    exists h = (plan, record { length = h; choice = λ t. allowed t (pick (sofar t) t .0) (pick (sofar t) t .1) })
+    exists h = (plan, record { length = λ i k m. (h i k m .0, omega (arith, h i k m .1)); choice = λ t. allowed t (pick (sofar t) t .0) (pick (sofar t) t .1) })
