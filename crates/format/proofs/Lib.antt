@@ -8,5 +8,4 @@ pub mod Formed
 pub mod Size
 pub mod Writing
 pub mod Steps
-pub mod Samples
 pub mod Ranges

@@ -10,3 +10,4 @@ pub mod Load
 pub mod Given
 pub mod Found
 pub mod Usable
+pub mod Files
