@@ -2,11 +2,12 @@
 use mathlib.Core.Path.{_≡_, refl, ap, ap₂, sym, _∙_}
 use mathlib.Core.List.{List, [], _∷_, _++_, map, append-assoc}
 use Prim.Native.Nat.{ℕ, zero, suc, _+_, _-_, _≤_, _<_}
-use native.Mathlib.Nat.{add-zero}
+use native.Mathlib.Nat.{add-zero, lt-of-not-le}
+use native.Mathlib.Decide.{decLe}
 use native.Mathlib.Numerals.{add-one}
 use native.Mathlib.Omega.{arith}
-use lib.ListN.{length, getD, take, drop, set, replicate, length-append, length-map, length-replicate, getD-replicate, List·getD-append}
-use lib.Seq.{take-at, getD-append-add, set-append-seam}
+use lib.ListN.{length, getD, take, drop, set, replicate, length-append, length-take, length-map, length-replicate, getD-replicate, List·getD-append}
+use lib.Seq.{length-take-le, getD-take, ext-getD, take-at, getD-append-add, set-append-seam}
 use Rattle.graph.specs.Model.{Rates, Link, Graph, no-task, no-relation}
 use Rattle.graph.specs.Memory.{view-rates, view-link, view, pad, laid-rates, laid-link, zero-link, laid}
 
@@ -42,6 +43,20 @@ module _ {A : Type 0} (n : ℕ) (z : A) (xs : List A) where
       ap (λ m. set (xs ++ replicate m z) (length xs) x) k
       ∙ set-append-seam xs z (replicate (n - length (xs ++ (x ∷ []))) z) x
       ∙ sym (append-assoc xs (x ∷ []) (replicate (n - length (xs ++ (x ∷ []))) z))
+
+-- a list of n places that holds zero from place k on is its first k places, padded; and back
+module _ {A : Type 0} (n : ℕ) (z : A) (xs : List A) (k : ℕ) where
+  pub pad-of : length xs ≡ n → k ≤ n → ((i : ℕ) → k ≤ i → i < n → getD xs i z ≡ z) → xs ≡ pad n z (take k xs)
+  pad-of e h f =
+      let l : length (take k xs) ≡ k = length-take-le k xs (omega arith) in
+      let at : (i : ℕ) → i < length xs → getD xs i z ≡ getD (pad n z (take k xs)) i z = λ i b. elim (decLe k i) [
+        | yes a ↦ f i a (omega arith) ∙ sym (pad-past n z (take k xs) i z (omega arith) (omega arith))
+        | no a ↦ sym (pad-at n z (take k xs) i z (omega arith) ∙ getD-take k xs i z (lt-of-not-le a))
+      ] in
+      ext-getD z xs (pad n z (take k xs)) (e ∙ sym (pad-length n z (take k xs) (omega arith))) at
+
+  pub of-pad : xs ≡ pad n z (take k xs) → (i : ℕ) → k ≤ i → i < n → getD xs i z ≡ z
+  of-pad e i h l = ap (λ ys. getD ys i z) e ∙ pad-past n z (take k xs) i z (omega (arith, length-take k xs)) l
 
 -- ---- what is laid into memory is read back
 

@@ -1,0 +1,106 @@
+-- Lists, sides and arrays that are formed, by their places. Assumes nothing.
+use mathlib.Core.Path.{_≡_, refl, ap, sym, subst, _∙_}
+use mathlib.Core.Bool.{Bool}
+use mathlib.Core.List.{List, [], _∷_, _++_, map}
+use Prim.Native.Nat.{ℕ, zero, suc, _+_, _-_, _≤_, _<_}
+use native.Mathlib.Omega.{arith}
+use lib.ListN.{length, getD, take, drop, replicate, length-take, length-drop, length-replicate, getD-replicate}
+use lib.Seq.{getD-drop, getD-take, length-take-le, take-all, ext-getD}
+use Rattle.numbers.specs.Lists.{All}
+use Rattle.graph.specs.Memory.{MemoryRates, pad, laid-rates, view-rates}
+use Rattle.graph.proofs.Laid.{pad-of, of-pad}
+use Rattle.format.specs.Ranges.{Tokens, RatesRange}
+use Rattle.numbers.proofs.Lists.{all-at, at-all}
+use Rattle.formed.specs.Formed.{Tells, Zeros, SideFormed, Places}
+
+-- ---- lists of zeros
+
+pub zeros-at : (xs : List ℕ) → Zeros xs → (i : ℕ) → i < length xs → getD xs i 0 ≡ 0
+zeros-at xs z i h = ap (λ ys. getD ys i 0) z ∙ getD-replicate (length xs) i 0 0 h
+
+pub at-zeros : (xs : List ℕ) → ((i : ℕ) → i < length xs → getD xs i 0 ≡ 0) → Zeros xs
+at-zeros xs f =
+    ext-getD 0 xs (replicate (length xs) 0) (sym (length-replicate (length xs) 0))
+    (λ i h. f i h ∙ sym (getD-replicate (length xs) i 0 0 h))
+
+-- a list of n places, its first k and zeros
+module _ (n : ℕ) (xs : List ℕ) (k : ℕ) (size : length xs ≡ n) where
+  pub zeros-pad : k ≤ n → Zeros (drop k xs) → xs ≡ pad n 0 (take k xs)
+  zeros-pad h z =
+      pad-of n 0 xs k size h
+      (λ i a b.
+      let e : k + (i - k) ≡ i = omega arith in
+      ap (λ j. getD xs j 0) (sym e) ∙ sym (getD-drop k xs (i - k) 0) ∙ zeros-at (drop k xs) z (i - k) (omega (arith, length-drop k xs)))
+
+  pub pad-zeros : xs ≡ pad n 0 (take k xs) → Zeros (drop k xs)
+  pad-zeros e =
+      at-zeros (drop k xs) (λ i h. getD-drop k xs i 0 ∙ of-pad n 0 xs k e (k + i) (omega arith) (omega (arith, length-drop k xs)))
+
+  -- what a test of the part behind k tells
+  pub rest-told : (b : Bool) → Tells (Zeros (take (n - k) (drop k xs))) b → Tells (Zeros (drop k xs)) b
+  rest-told b t = subst (λ ys. Tells (Zeros ys) b) (take-all (n - k) (drop k xs) (omega (arith, length-drop k xs))) t
+
+-- ---- a side
+
+-- what the test of a side finds
+pub record SideTold (s : MemoryRates) : Type 0 where
+  pub prefix : s .plen ≤ 16
+  pub some-entry : 1 ≤ s .clen
+  pub cycle : s .clen ≤ 32
+  pub prefix-rest : Zeros (drop (s .plen) (s .prefix))
+  pub cycle-rest : Zeros (drop (s .clen) (s .cycle))
+
+module _ (s : MemoryRates) (p : length (s .prefix) ≡ 16) (q : length (s .cycle) ≡ 32) where
+  pub side-yes : ((i : ℕ) → i < 16 → Tokens (getD (s .prefix) i 0)) → ((i : ℕ) → i < 32 → Tokens (getD (s .cycle) i 0)) → SideTold s → SideFormed s
+  side-yes f g t =
+      let l : length (take (s .plen) (s .prefix)) ≡ s .plen = length-take-le (s .plen) (s .prefix) (omega arith) in
+      let m : length (take (s .clen) (s .cycle)) ≡ s .clen = length-take-le (s .clen) (s .cycle) (omega arith) in
+      let a = zeros-pad 16 (s .prefix) (s .plen) p (t .prefix) (t .prefix-rest) in
+      let b = zeros-pad 32 (s .cycle) (s .clen) q (t .cycle) (t .cycle-rest) in
+      record {
+        padded = λ i. record { prefix = a i; plen = sym l i; cycle = b i; clen = sym m i };
+        ranged = record {
+          prefix = omega arith;
+          some-entry = omega arith;
+          cycle = omega arith;
+          prefix-tokens = at-all Tokens (take (s .plen) (s .prefix)) 0 (λ i h. rw (getD-take (s .plen) (s .prefix) i 0 (omega arith)) (f i (omega arith)));
+          cycle-tokens = at-all Tokens (take (s .clen) (s .cycle)) 0 (λ i h. rw (getD-take (s .clen) (s .cycle) i 0 (omega arith)) (g i (omega arith)));
+        };
+      }
+
+  pub side-no : SideFormed s → SideTold s
+  side-no f =
+      let l : s .plen ≡ length (take (s .plen) (s .prefix)) = ap (λ (x : MemoryRates). x .plen) (f .padded) in
+      let m : s .clen ≡ length (take (s .clen) (s .cycle)) = ap (λ (x : MemoryRates). x .clen) (f .padded) in
+      record {
+        prefix = omega (arith, f .ranged .prefix);
+        some-entry = omega (arith, f .ranged .some-entry);
+        cycle = omega (arith, f .ranged .cycle);
+        prefix-rest = pad-zeros 16 (s .prefix) (s .plen) p (ap (λ (x : MemoryRates). x .prefix) (f .padded));
+        cycle-rest = pad-zeros 32 (s .cycle) (s .clen) q (ap (λ (x : MemoryRates). x .cycle) (f .padded));
+      }
+
+-- ---- an array of so many places, place by place
+
+-- what is asked of place i, which holds x
+pub record Place {A : Type 0} (P : A → Type 0) (z : A) (n i : ℕ) (x : A) : Type 0 where
+  pub used : i < n → P x
+  pub unused : n ≤ i → x ≡ z
+
+module _ {A : Type 0} (P : A → Type 0) (size : ℕ) (z : A) (n : ℕ) (xs : List A) (few : n ≤ size) (long : length xs ≡ size) where
+  pub places-yes : ((i : ℕ) → i < size → Place P z n i (getD xs i z)) → Places P size z n xs
+  places-yes f =
+      record {
+        padded = pad-of size z xs n long few (λ i a b. f i b .unused a);
+        used =
+            let l : length (take n xs) ≡ n = length-take-le n xs (omega arith) in
+            at-all P (take n xs) z (λ i h. rw (getD-take n xs i z (omega arith)) (f i (omega arith) .used (omega arith)));
+      }
+
+  pub places-no : Places P size z n xs → (i : ℕ) → i < size → Place P z n i (getD xs i z)
+  places-no p i h =
+      let l : length (take n xs) ≡ n = length-take-le n xs (omega arith) in
+      record {
+        used = λ k. rw getD-take at (all-at P (take n xs) z (p .used) i (omega arith));
+        unused = λ k. of-pad size z xs n (p .padded) i k h;
+      }
