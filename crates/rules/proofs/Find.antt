@@ -114,3 +114,14 @@ module _ (g : Graph) (room : ℕ) where
   pub given-replies : (o : Option Reply) → Earliest g room (Upto 14) o → Replies g room (given o (count g))
   given-replies none f = passes (λ s h. f s (omega arith) h)
   given-replies (some r) (d, h, l) = fails r h (λ s k. l s (omega arith) k)
+
+  -- the earliest refusal so far stays the earliest, whatever later tests would find
+  pub later-finds : (n m : ℕ) (r : Reply) → n ≤ m → Earliest g room (Upto n) (some r) → Earliest g room (Upto m) (some r)
+  later-finds n m r h (d, x, l) = (omega arith, x, go)
+    where
+      after : (s : Reply) → n ≤ stage s → ¬ Earlier s r
+      after s k (inl y) = omega arith
+      after s k (inr (y, z)) = omega arith
+
+      go : (s : Reply) → Upto m s → Refuses g room s → ¬ Earlier s r
+      go s k y = elim (decLt (stage s) n) [ yes a ↦ l s a y | no a ↦ after s (omega arith) ]

@@ -30,7 +30,7 @@ use Rattle.reply.specs.declared.Reply.the-variants.{Accepted, SamePriority, Sho
 use Rattle.reply.specs.Reply.{number, place, job}
 use Rattle.rules.specs.Order.{Sooner, Earlier}
 use Rattle.rules.specs.Rules.{Holds, load, Refuses, Replies}
-use Rattle.rules.specs.Check.{eqbℤ, holds, seen, refusal, or, same-priorities, short-reports, false-relations, late-tasks, overload, spoilt-channels, found, reply}
+use Rattle.rules.specs.Check.{eqbℤ, holds, seen, refusal, when, or, same-priorities, short-reports, false-relations, late-tasks, overload, spoilt-channels, found, reply}
 use Rattle.rules.proofs.Order.{irreflexive}
 use Rattle.rules.specs.Stages.{At, Upto, In, Earliest}
 use Rattle.rules.proofs.Find.{kind, known, when-finds, stage-finds, tests-find, next-finds, nothing, given-replies}
@@ -239,6 +239,23 @@ module _ (g : Graph) (room : ℕ) where
   verdict-finds c l (channels.Underflow i) m k = ((refl, refl), (l, m .3 .0), clear-first c (Underflow c i) refl refl k)
   verdict-finds c l (channels.Overflow i) m k = ((refl, refl), (l, m .4 .0), clear-first c (Overflow c i) refl refl k)
 
+  -- ---- the stages of one test, and of one channel
+
+  -- the report has room for the figures, or not
+  pub room-finds : Earliest g room (In 9) (when (ltb room (count g)) (ShortReport (count g)))
+  room-finds =
+      when-finds g room (In 9) (ltb room (count g)) (ShortReport (count g)) refl (λ e. (refl, ltb-true room (count g) e))
+      (λ s e h.
+      let q : s ≡ ShortReport (place s) = kind 9 s (omega arith) e in
+      let (a, b) = subst (Refuses g room) q h in
+      (q ∙ ap ShortReport a, lt-ltb room (count g) b))
+
+  -- the load is too high, or not
+  pub load-finds : Earliest g room (In 12) (when (ltb 1_000_000 (load g)) Overloaded)
+  load-finds =
+      when-finds g room (In 12) (ltb 1_000_000 (load g)) Overloaded refl (λ e. ltb-true 1_000_000 (load g) e)
+      (λ s e h. let q : s ≡ Overloaded = kind 12 s (omega arith) e in (q, lt-ltb 1_000_000 (load g) (subst (Refuses g room) q h)))
+
   -- ---- all tests
 
   module _ (ok : Usable g) where
@@ -250,6 +267,10 @@ module _ (g : Graph) (room : ℕ) where
 
     pub sound-consumer : (c : ℕ) → c < length (g .channels) → Sound (channel g c .consumer)
     sound-consumer c l = let j = ok .ends c l in sound-side (link g c .consumer) (link g c .consumption) (j .consumer-known) (j .some-take)
+
+    -- a verdict on channel c is the earliest refusal of that channel
+    pub channel-finds : (c : ℕ) → c < length (g .channels) → (v : Verdict) → Means (channel g c) v → Earliest g room (At 13 c) (refusal c v)
+    channel-finds c l v m = verdict-finds c l v m (clear (channel g c) (sound-producer c l) (sound-consumer c l) v m)
 
     pub finds : Earliest g room (Upto 14) (found g room)
     unfolding found
@@ -267,23 +288,14 @@ module _ (g : Graph) (room : ℕ) where
         (next-finds g room 8 none a (nothing g room)
         (tests-find g room 8 (count g) (seen g) SamePriority (λ i. (refl, refl)) (λ s e h. kind 8 s (omega arith) e) (λ i h. h .0)
         (λ i l. let t = seen-tests g i in (λ e. (l, t .0 e), λ h. t .1 (h .1)))))
-        (when-finds g room (In 9) (ltb room (count g)) (ShortReport (count g)) refl (λ e. (refl, ltb-true room (count g) e))
-        (λ s e h.
-        let q : s ≡ ShortReport (place s) = kind 9 s (omega arith) e in
-        let (a, b) = subst (Refuses g room) q h in
-        (q ∙ ap ShortReport a, lt-ltb room (count g) b))))
+        room-finds)
         (tests-find g room 10 (length (g .relations)) (λ r. not (holds g (relation g r))) FalseRelation (λ i. (refl, refl)) (λ s e h. kind 10 s (omega arith) e) (λ i h. h .0)
         (λ r l. let t = not-tests (holds g (relation g r)) (Holds g (relation g r)) (holds-tests g (relation g r)) in (λ e. (l, t .0 e), λ h. t .1 (h .1)))))
         (tests-find g room 11 (count g) (λ i. ltb (task g i .deadline) (response g i)) Late (λ i. (refl, refl)) (λ s e h. kind 11 s (omega arith) e) (λ i h. h .0)
         (λ i l. let t = late-tests g i in (λ e. (l, t .0 e), λ h. t .1 (h .1)))))
-        (when-finds g room (In 12) (ltb 1_000_000 (load g)) Overloaded refl (λ e. ltb-true 1_000_000 (load g) e)
-        (λ s e h. let q : s ≡ Overloaded = kind 12 s (omega arith) e in (q, lt-ltb 1_000_000 (load g) (subst (Refuses g room) q h)))))
+        load-finds)
         (stage-finds g room 13 (length (g .channels)) (λ c. refusal c (judge (channel g c))) (λ s e h. known g room s h .2 (omega arith))
-        (λ c l.
-        let p = sound-producer c l in
-        let q = sound-consumer c l in
-        let m = judge-means (channel g c) p q in
-        verdict-finds c l (judge (channel g c)) m (clear (channel g c) p q (judge (channel g c)) m)))
+        (λ c l. channel-finds c l (judge (channel g c)) (judge-means (channel g c) (sound-producer c l) (sound-consumer c l))))
 
     -- the computed reply is the one that is given
     pub replies : Replies g room (reply g room)
