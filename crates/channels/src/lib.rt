@@ -3,13 +3,28 @@ ghost use mathlib.Core.Path.{_≡_};
 ghost use Prim.Native.Nat.{ℕ, _+_, _*_, _≤_, _<_};
 ghost use lib.Dec.{eqb};
 ghost use lib.ListN.{length};
-ghost use Rattle.channels.specs.Sides.{turnOf, Turned};
+ghost use Rattle.channels.specs.Sides.{sideOf, turnOf, Turned};
+ghost use Rattle.channels.specs.Answers.{Spans, Measured, Searchable, Finds};
+use graph::list_at;
+use graph::next_place;
 
 // When the jobs of a side are released, and how long their windows are.
 pub struct Pace {
     pub period: u64,
     pub offset: u64,
     pub window: u64,
+}
+
+// The length of the window, where it is not too long.
+pub enum Window {
+    Length { ticks: u64 },
+    TooLong,
+}
+
+// The taker's first job that is short, if there is one.
+pub enum Search {
+    Short { job: u64 },
+    Nothing,
 }
 
 fn wide(tokens: u16) -> u64
@@ -41,4 +56,68 @@ fn balanced<'a>(production: &'a [u16], consumption: &'a [u16], pperiod: u64, cpe
     let put = turn(production) * consumption.len() as u64 * cperiod;
     let taken = turn(consumption) * production.len() as u64 * pperiod;
     put == taken
+}
+
+// The least common multiple of the spans a and b: the first multiple of a that b divides, given up once that divided by the smaller period is above 65,536.
+fn measure(a: u64, b: u64, least: u64) -> Window
+    requires { ⌜ Spans a b least ⌝ }
+    ensures { λ r. ⌜ Measured a b least r ⌝ }
+{
+    let limit = 65537 * least;
+    let mut ticks = a;
+    while ticks < limit {
+        if ticks % b == 0 {
+            return Window::Length { ticks: ticks };
+        }
+        ticks += a;
+    }
+    Window::TooLong
+}
+
+// The first of the taker's jobs that is short. A turn goes by one job of the giver that has ended by then, or by one of the taker; both totals, both moments and both places are kept running.
+fn first_short<'a>(
+    tprefix: &'a [u16],
+    tcycle: &'a [u16],
+    gprefix: &'a [u16],
+    gcycle: &'a [u16],
+    taker: Pace,
+    giver: Pace,
+    stock: u64,
+    jobs: u64,
+) -> Search
+    requires { ⌜ Searchable (sideOf taker (now tprefix) (now tcycle)) (sideOf giver (now gprefix) (now gcycle)) stock jobs ⌝ }
+    ensures { λ r. ⌜ Finds (sideOf taker (now (tprefix .entry)) (now (tcycle .entry))) (sideOf giver (now (gprefix .entry)) (now (gcycle .entry))) stock jobs r ⌝ }
+{
+    let start = taker.offset;
+    let tperiod = taker.period;
+    let offset = giver.offset;
+    let window = giver.window;
+    let gperiod = giver.period;
+    let mut release = start;
+    let mut end = offset + window;
+    let mut have = stock;
+    let mut need: u64 = 0;
+    let mut tplace: usize = 0;
+    let mut gplace: usize = 0;
+    let mut k: u64 = 0;
+    let mut q: u64 = 0;
+    while k < jobs {
+        if end <= release {
+            let list = list_at(gprefix, gcycle, q);
+            have += wide(list[gplace]);
+            gplace = next_place(list.len(), gplace);
+            q += 1;
+            end += gperiod;
+        } else {
+            let list = list_at(tprefix, tcycle, k);
+            need += wide(list[tplace]);
+            if have < need {
+                return Search::Short { job: k };
+            }
+            tplace = next_place(list.len(), tplace);
+            k += 1;
+            release += tperiod;
+        }
+    }
+    Search::Nothing
 }

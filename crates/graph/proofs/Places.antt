@@ -75,3 +75,14 @@ module _ (prefix cycle : List ℕ) (m : ℕ) where
           → cond b m ((m - length prefix) % length cycle) < cond b (length prefix) (length cycle)
       go true e = ltb-true m (length prefix) e
       go false e = mod-lt (m - length prefix) h
+
+pub place-first : (prefix cycle : List ℕ) → placeOf prefix cycle 0 ≡ 0
+unfolding placeIn
+place-first prefix cycle =
+    let none : 0 - length prefix ≡ 0 = omega arith in
+    rw none (go (ltb 0 (length prefix)) (eqb (length cycle) 0))
+  where
+    go : (a b : Bool) → cond a 0 (cond b 0 (0 % length cycle)) ≡ 0
+    go true b = refl
+    go false true = refl
+    go false false = zero-mod (length cycle)
