@@ -1,0 +1,43 @@
+-- `reader::length_of` meets its contract: the table's rule is one test that antt computes at each of its five entries. Assumes nothing.
+use mathlib.Core.List.{List, [], _∷_}
+use mathlib.Core.Bool.{Bool}
+use mathlib.Core.Path.{_≡_}
+use Prim.Native.Nat.{ℕ, _<_}
+use native.Mathlib.Omega.{arith}
+use lib.Dec.{eqb, eqb→eq}
+use lib.ListN.{getD}
+use borrow.Author.Tests.{ne-eqb}
+use borrow.Author.Needs.{needs}
+use Rattle.format.specs.Record.{kind-of}
+use Rattle.reader.specs.Heads.{length-of}
+use Rattle.reader.proofs.Table.{at}
+use Rattle.reader.proofs.length_of.Statement.{statement}
+use Rattle.reader.proofs.length_of.Tie as tie
+
+table : List ℕ
+table = 0 ∷ 17 ∷ 10 ∷ 5 ∷ 14 ∷ []
+
+right : ℕ → ℕ → Bool
+right k x = eqb x (length-of (kind-of k))
+
+mul-result : tie.Need-mul-result
+mul-result c = search needs
+
+array-read-result : tie.Need-array-read-result
+array-read-result c = search needs
+
+returns : tie.Need-returns
+unfolding table right kind-of
+returns c =
+    let k = c .before .args .byte in
+    eqb→eq (getD table k 0) (length-of (kind-of k)) (at right table tt k (search needs))
+
+returns-2 : tie.Need-returns-2
+unfolding kind-of
+returns-2 c =
+    let k = c .before .args .byte in
+    let no : (n : ℕ) → n < 5 → k ≡ n → ⊥ = λ n h e. omega arith in
+    simp (ne-eqb k 1 (no 1 (omega arith)), ne-eqb k 2 (no 2 (omega arith)), ne-eqb k 3 (no 3 (omega arith)), ne-eqb k 4 (no 4 (omega arith)))
+
+pub length-of-spec : {M : Type 1} → statement M
+length-of-spec = tie.close (tie.spec mul-result array-read-result returns returns-2)

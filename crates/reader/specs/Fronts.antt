@@ -1,0 +1,35 @@
+-- What the tests of one record say of it, behind the counts of what is read. Assumes nothing.
+use mathlib.Core.Path.{_≡_}
+use mathlib.Core.Bool.{Bool, true, false}
+use Prim.Native.Nat.{ℕ, _≤_, _<_}
+use lib.ListN.{length}
+use Rattle.format.specs.Record.{Record, task, relation, rank}
+use Rattle.format.specs.Reader.{State, InRange, count, limit, Good}
+use Rattle.reader.specs.declared.Test.the-variants.{Unknown, Cut, Down, Range, Full}
+use Rattle.reader.specs.declared.Front.{Front}
+use Rattle.reader.specs.declared.Front.the-variants.{Task, Channel, Rate, Relation, Stopped}
+use Rattle.reader.specs.Heads.{headed, entered}
+
+-- the answer to a question
+abbrev pub Decides : Bool → Type 0 → Type 0
+Decides true P = P
+Decides false P = ¬ P
+
+-- how many records of each kind the state has, and its floor
+pub record Counts (s : State) (floor ntasks nchannels nrelations : ℕ) : Type 0 where
+  pub floors : s .floor ≡ floor
+  pub tasks : length (s .graph .tasks) ≡ ntasks
+  pub channels : length (s .graph .channels) ≡ nchannels
+  pub relations : length (s .graph .relations) ≡ nrelations
+
+-- the record r, whose kind and length are right, as the other tests judge it
+abbrev pub Judges : State → Record → Front → Type 0
+Judges s r (Stopped Unknown) = ⊥
+Judges s r (Stopped Cut) = ⊥
+Judges s r (Stopped Down) = rank r < s .floor
+Judges s r (Stopped Range) = (s .floor ≤ rank r) × ¬ InRange (s .graph) r
+Judges s r (Stopped Full) = (s .floor ≤ rank r) × InRange (s .graph) r × (limit r ≤ count (s .graph) r)
+Judges s r (Task t) = (r ≡ task t) × Good s r
+Judges s r (Channel h) = (r ≡ headed h) × Good s r
+Judges s r (Rate e) = (r ≡ entered e) × (s .floor ≤ rank r) × InRange (s .graph) r
+Judges s r (Relation l) = (r ≡ relation l) × Good s r
