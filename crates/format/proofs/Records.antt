@@ -1,8 +1,8 @@
 -- A record in range is what its bytes hold, and bytes are those of the record that they hold. Assumes nothing.
-use mathlib.Core.Path.{_≡_, refl, ap, ap₂, _∙_}
+use mathlib.Core.Path.{_≡_, refl, ap, ap₂, sym, _∙_}
 use mathlib.Core.Bool.{Bool, true, false, cond}
 use mathlib.Core.Option.{Option, none, some}
-use mathlib.Core.List.{List, _∷_}
+use mathlib.Core.List.{List, [], _∷_, _++_, append-assoc, append-nil}
 use Prim.Native.Nat.{ℕ, _-_, _<_}
 use native.Mathlib.Omega.{arith}
 use borrow.Author.Tests.{lt-ltb, le-ltb, eqb-true}
@@ -10,7 +10,7 @@ use lib.Dec.{ltb, eqb}
 use lib.IntN.{ℤ, pos, negsuc}
 use lib.ListN.{length}
 use Rattle.graph.specs.Model.{Graph, million}
-use Rattle.format.specs.Record.{wrap, unwrap, split, Kind, a-task, a-channel, a-rate, a-relation, code, kind-of, widths, size, Record, task, channel, rate, relation, kind, values, body, encode, decode, record-of}
+use Rattle.format.specs.Record.{wrap, unwrap, split, Kind, a-task, a-channel, a-rate, a-relation, code, kind-of, widths, size, Record, task, channel, rate, relation, kind, values, body, encode, encodes, decode, record-of}
 use Rattle.format.specs.Reader.{signed, Holds, ranges, InRange, Bytes}
 use Rattle.format.proofs.Numbers.{Fit, join-length, join-bytes, split-join, join-split, split-fit}
 
@@ -107,3 +107,14 @@ code-byte a-relation = omega arith
 
 pub encode-bytes : (g : Graph) (r : Record) → InRange g r → Bytes (encode r)
 encode-bytes g r h = (code-byte (kind r), join-bytes (widths (kind r)) (values r) (fits g r h))
+
+-- ---- records one behind the other
+
+pub encodes-append : (qs rs : List Record) → encodes (qs ++ rs) ≡ encodes qs ++ encodes rs
+unfolding encodes
+encodes-append [] rs = refl
+encodes-append (q ∷ qs) rs = ap (λ l. encode q ++ l) (encodes-append qs rs) ∙ sym (append-assoc (encode q) (encodes qs) (encodes rs))
+
+pub encodes-one : (r : Record) → encodes (r ∷ []) ≡ encode r
+unfolding encodes
+encodes-one r = append-nil (encode r)

@@ -1,5 +1,5 @@
 -- A formed graph's file is made of bytes, and how long it can be. Assumes nothing.
-use mathlib.Core.Path.{_≡_, refl, ap, sym, subst}
+use mathlib.Core.Path.{_≡_, refl, ap, sym, subst, _∙_}
 use mathlib.Core.List.{List, [], _∷_, _++_, map}
 use Prim.Native.Nat.{ℕ, suc, _+_, _*_, _≤_, _<_}
 use native.Mathlib.Omega.{arith}
@@ -10,15 +10,12 @@ use Rattle.format.specs.Record.{Kind, a-task, a-channel, a-rate, a-relat
 use Rattle.format.specs.Reader.{InRange, Bytes, Reads}
 use Rattle.format.specs.Writer.{head, rates-of, rates-from, records, bytes, FewRates, Counts, Formed}
 use Rattle.numbers.proofs.Lists.{all-left, all-right, all-append}
-use Rattle.format.proofs.Records.{body-length, encode-bytes}
+use Rattle.format.proofs.Records.{body-length, encode-bytes, encodes-append}
 use Rattle.format.proofs.Canon.{reads-bytes}
 use Rattle.format.proofs.Formed.{reads-formed}
 
-encodes-append : (qs rs : List Record) → length (encodes (qs ++ rs)) ≡ length (encodes qs) + length (encodes rs)
-unfolding encodes
-encodes-append [] rs = omega arith
-encodes-append (q ∷ qs) rs =
-    omega (arith, length-append (encode q) (encodes (qs ++ rs)), encodes-append qs rs, length-append (encode q) (encodes qs))
+length-encodes : (qs rs : List Record) → length (encodes (qs ++ rs)) ≡ length (encodes qs) + length (encodes rs)
+length-encodes qs rs = ap length (encodes-append qs rs) ∙ length-append (encodes qs) (encodes rs)
 
 module _ (g : Graph) where
   sort-length : {A : Type 0} (f : A → Record) (k : Kind) → ((x : A) → kind (f x) ≡ k) → (xs : List A)
@@ -49,9 +46,9 @@ module _ (g : Graph) where
         few .production .cycle,
         few .consumption .prefix,
         few .consumption .cycle,
-        encodes-append a (b ++ (d ++ e)),
-        encodes-append b (d ++ e),
-        encodes-append d e,
+        length-encodes a (b ++ (d ++ e)),
+        length-encodes b (d ++ e),
+        length-encodes d e,
         sort-length (rate i 0 0) a-rate (λ x. refl) (c .production .prefix) (all-left (InRange g) a _ f),
         sort-length (rate i 0 1) a-rate (λ x. refl) (c .production .cycle) (all-left (InRange g) b _ f₁),
         sort-length (rate i 1 0) a-rate (λ x. refl) (c .consumption .prefix) (all-left (InRange g) d _ f₂),
@@ -65,7 +62,7 @@ module _ (g : Graph) where
   rates-length (c ∷ cs) i few f =
       omega (
         arith,
-        encodes-append (rates-of i c) (rates-from (suc i) cs),
+        length-encodes (rates-of i c) (rates-from (suc i) cs),
         channel-length i c (few .0) (all-left (InRange g) (rates-of i c) _ f),
         rates-length cs (suc i) (few .1) (all-right (InRange g) (rates-of i c) _ f),
       )
@@ -85,9 +82,9 @@ module _ (g : Graph) where
         n .tasks,
         n .channels,
         n .relations,
-        encodes-append a (b ++ (d ++ e)),
-        encodes-append b (d ++ e),
-        encodes-append d e,
+        length-encodes a (b ++ (d ++ e)),
+        length-encodes b (d ++ e),
+        length-encodes d e,
         sort-length task a-task (λ x. refl) (g .tasks) (all-left (InRange g) a _ (F .in-range)),
         sort-length head a-channel (λ x. refl) (g .channels) (all-left (InRange g) b _ f₁),
         rates-length (g .channels) 0 (n .rates) (all-left (InRange g) d _ f₂),
