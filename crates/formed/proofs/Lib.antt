@@ -1,3 +1,4 @@
 pub mod Tells
 pub mod Parts
 pub mod Zero
+pub mod Phase

@@ -7,11 +7,12 @@ use native.Mathlib.Omega.{arith}
 use lib.ListN.{length, getD, take, drop, replicate, length-take, length-drop, length-replicate, getD-replicate}
 use lib.Seq.{getD-drop, getD-take, length-take-le, take-all, ext-getD}
 use Rattle.numbers.specs.Lists.{All}
-use Rattle.graph.specs.Memory.{MemoryRates, pad, laid-rates, view-rates}
+use Rattle.graph.specs.Model.{million}
+use Rattle.graph.specs.Memory.{MemoryLink, MemoryRates, pad, laid-rates, view-rates}
 use Rattle.graph.proofs.Laid.{pad-of, of-pad}
 use Rattle.format.specs.Ranges.{Tokens, RatesRange}
 use Rattle.numbers.proofs.Lists.{all-at, at-all}
-use Rattle.formed.specs.Formed.{Tells, Zeros, SideFormed, Places}
+use Rattle.formed.specs.Formed.{Tells, Zeros, SideFormed, ChannelFormed, Places}
 
 -- ---- lists of zeros
 
@@ -79,6 +80,29 @@ module _ (s : MemoryRates) (p : length (s .prefix) ≡ 16) (q : length (s .cycle
         prefix-rest = pad-zeros 16 (s .prefix) (s .plen) p (ap (λ (x : MemoryRates). x .prefix) (f .padded));
         cycle-rest = pad-zeros 32 (s .cycle) (s .clen) q (ap (λ (x : MemoryRates). x .cycle) (f .padded));
       }
+
+-- ---- a channel, by its sides
+
+pub channel-yes : (n : ℕ) (c : MemoryLink) → c .producer < n → c .consumer < n → c .initial ≤ million → c .size ≤ million
+    → SideFormed (c .production) → SideFormed (c .consumption) → ChannelFormed n c
+channel-yes n c p q a b s t =
+    record {
+      padded = λ i. record {
+        producer = c .producer;
+        consumer = c .consumer;
+        initial = c .initial;
+        size = c .size;
+        production = s .padded i;
+        consumption = t .padded i;
+      };
+      ranged = record { producer = p; consumer = q; initial = a; size = b; production = s .ranged; consumption = t .ranged };
+    }
+
+pub channel-sides : (n : ℕ) (c : MemoryLink) → ChannelFormed n c → SideFormed (c .production) × SideFormed (c .consumption)
+channel-sides n c f = (
+  record { padded = ap (λ (x : MemoryLink). x .production) (f .padded); ranged = f .ranged .production },
+  record { padded = ap (λ (x : MemoryLink). x .consumption) (f .padded); ranged = f .ranged .consumption },
+)
 
 -- ---- an array of so many places, place by place
 

@@ -6,8 +6,9 @@ use graph::Side;
 use graph::Task;
 ghost use mathlib.Core.Path.{_≡_};
 ghost use Prim.Native.Nat.{ℕ, _≤_, _<_};
-ghost use Rattle.graph.specs.Model.{no-task, no-relation};
-ghost use Rattle.graph.specs.Memory.{zero-link};
+ghost use lib.IntN.{natAbs};
+ghost use Rattle.graph.specs.Model.{million, no-task, no-rates, no-relation};
+ghost use Rattle.graph.specs.Memory.{laid-rates, zero-link};
 ghost use Rattle.format.specs.Ranges.{TaskRange, RelationRange};
 ghost use Rattle.formed.specs.Formed.{WellFormed, Tells, Zeros, SideFormed, ChannelFormed, Places};
 
@@ -96,6 +97,132 @@ fn task_zero(t: Task) -> bool
         return false;
     }
     if t.priority != 0 {
+        return false;
+    }
+    true
+}
+
+// Whether a side is all zero.
+fn side_zero(s: Side) -> bool
+    ensures { λ r. ⌜ Tells (s ≡ laid-rates no-rates) r ⌝ }
+{
+    if s.plen != 0 {
+        return false;
+    }
+    if s.clen != 0 {
+        return false;
+    }
+    let prefix = s.prefix;
+    if !zeros(&prefix[..]) {
+        return false;
+    }
+    let cycle = s.cycle;
+    zeros(&cycle[..])
+}
+
+// Whether a channel names two of so many tasks, its numbers are in range, and its sides are formed.
+fn channel_formed(c: Channel, count: usize) -> bool
+    ensures { λ r. ⌜ Tells (ChannelFormed count c) r ⌝ }
+{
+    if count <= c.producer as usize {
+        return false;
+    }
+    if count <= c.consumer as usize {
+        return false;
+    }
+    if Graph::MILLION < c.initial {
+        return false;
+    }
+    if Graph::MILLION < c.size {
+        return false;
+    }
+    let production = c.production;
+    if !side_formed(production) {
+        return false;
+    }
+    let consumption = c.consumption;
+    side_formed(consumption)
+}
+
+// Whether a channel is all zero.
+fn channel_zero(c: Channel) -> bool
+    ensures { λ r. ⌜ Tells (c ≡ zero-link) r ⌝ }
+{
+    if c.producer != 0 {
+        return false;
+    }
+    if c.consumer != 0 {
+        return false;
+    }
+    if c.initial != 0 {
+        return false;
+    }
+    if c.size != 0 {
+        return false;
+    }
+    let production = c.production;
+    if !side_zero(production) {
+        return false;
+    }
+    let consumption = c.consumption;
+    side_zero(consumption)
+}
+
+// Whether a phase is in range.
+fn phase_formed(phi: i32) -> bool
+    ensures { λ r. ⌜ Tells (natAbs phi ≤ million) r ⌝ }
+{
+    if phi < Graph::LEAST_PHASE {
+        return false;
+    }
+    if Graph::PHASE < phi {
+        return false;
+    }
+    true
+}
+
+// Whether a relation names two of so many tasks, and its numbers are in range.
+fn relation_formed(r: Relation, count: usize) -> bool
+    ensures { λ a. ⌜ Tells (RelationRange count r) a ⌝ }
+{
+    if count <= r.p as usize {
+        return false;
+    }
+    if count <= r.q as usize {
+        return false;
+    }
+    if r.n < 1 {
+        return false;
+    }
+    if Graph::MILLION < r.n {
+        return false;
+    }
+    if r.d < 1 {
+        return false;
+    }
+    if Graph::MILLION < r.d {
+        return false;
+    }
+    phase_formed(r.phi)
+}
+
+// Whether a relation is all zero.
+fn relation_zero(r: Relation) -> bool
+    ensures { λ a. ⌜ Tells (r ≡ no-relation) a ⌝ }
+{
+    if r.p != 0 {
+        return false;
+    }
+    if r.q != 0 {
+        return false;
+    }
+    if r.n != 0 {
+        return false;
+    }
+    if r.phi != 0 {
+        return false;
+    }
+    if r.d != 0 {
         return false;
     }
     true
