@@ -1,0 +1,35 @@
+// The checker: the tests in the order of document 01, and the report.
+ghost use mathlib.Core.Path.{_≡_};
+ghost use Prim.Native.Nat.{ℕ, _≤_};
+ghost use lib.ListN.{take};
+ghost use Rattle.checker.specs.Outcome.{Tests};
+use graph::Task;
+use reply::Found;
+use reply::Reply;
+
+// What some of the tests found: nothing, or the earliest refusal.
+pub enum Outcome {
+    Passed,
+    Refused { reply: Reply },
+}
+
+// Tests 8 and 9: priorities, and the room in the report.
+fn task_tests(tasks: [Task; 32], n: usize, room: usize) -> Outcome
+    requires { ⌜ n ≤ 32 ⌝ }
+    ensures { λ r. ⌜ Tests 10 room (take n tasks) r ⌝ }
+{
+    match tasks::same_priority(tasks, n) {
+        Found::At { index } => Outcome::Refused {
+            reply: Reply::SamePriority { task: index },
+        },
+        Found::Nothing => {
+            if room < n {
+                Outcome::Refused {
+                    reply: Reply::ShortReport { tasks: n },
+                }
+            } else {
+                Outcome::Passed
+            }
+        }
+    }
+}
