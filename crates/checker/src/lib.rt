@@ -1,7 +1,8 @@
 // The checker: the tests in the order of document 01, and the report.
 ghost use mathlib.Core.Path.{_≡_};
+ghost use mathlib.Core.List.{_++_};
 ghost use Prim.Native.Nat.{ℕ, _≤_};
-ghost use lib.ListN.{take};
+ghost use lib.ListN.{length, take, drop};
 ghost use Rattle.checker.specs.Outcome.{Tests};
 use graph::Task;
 use reply::Found;
@@ -31,5 +32,17 @@ fn task_tests(tasks: [Task; 32], n: usize, room: usize) -> Outcome
                 Outcome::Passed
             }
         }
+    }
+}
+
+// The figures into the first n places of the report.
+fn fill(figures: [u32; 32], n: usize, report: &mut [u32])
+    requires { ⌜ (n ≤ 32) × (n ≤ length (now report)) ⌝ }
+    ensures { λ _. ⌜ now (report .exit) ≡ take n figures ++ drop n (now (report .entry)) ⌝ }
+{
+    let mut i: usize = 0;
+    while i < n {
+        report[i] = figures[i];
+        i += 1;
     }
 }
