@@ -3,7 +3,9 @@ ghost use mathlib.Core.Path.{_≡_};
 ghost use mathlib.Core.List.{_++_};
 ghost use Prim.Native.Nat.{ℕ, _≤_};
 ghost use lib.ListN.{length, take, drop};
-ghost use Rattle.checker.specs.Outcome.{Tests};
+ghost use Rattle.checker.specs.Outcome.{Tests, refusal};
+ghost use Rattle.rules.specs.Check as rules;
+use channel::Verdict;
 use graph::Task;
 use reply::Found;
 use reply::Reply;
@@ -32,6 +34,36 @@ fn task_tests(tasks: [Task; 32], n: usize, room: usize) -> Outcome
                 Outcome::Passed
             }
         }
+    }
+}
+
+// What a verdict on channel c says.
+fn outcome_of(c: usize, verdict: Verdict) -> Outcome
+    ensures { λ r. ⌜ refusal r ≡ rules.refusal c verdict ⌝ }
+{
+    match verdict {
+        Verdict::Fine => Outcome::Passed,
+        Verdict::InitialAboveSize => Outcome::Refused {
+            reply: Reply::InitialAboveSize { channel: c },
+        },
+        Verdict::Unbalanced => Outcome::Refused {
+            reply: Reply::Unbalanced { channel: c },
+        },
+        Verdict::WindowTooLong => Outcome::Refused {
+            reply: Reply::WindowTooLong { channel: c },
+        },
+        Verdict::Underflow { job } => Outcome::Refused {
+            reply: Reply::Underflow {
+                channel: c,
+                job: job,
+            },
+        },
+        Verdict::Overflow { job } => Outcome::Refused {
+            reply: Reply::Overflow {
+                channel: c,
+                job: job,
+            },
+        },
     }
 }
 

@@ -125,3 +125,22 @@ module _ (g : Graph) (room : ℕ) where
 
       go : (s : Reply) → Upto m s → Refuses g room s → ¬ Earlier s r
       go s k y = elim (decLt (stage s) n) [ yes a ↦ l s a y | no a ↦ after s (omega arith) ]
+
+  -- places below c pass and place c doesn't
+  pub place-finds : (n c : ℕ) (r : Reply) → ((i : ℕ) → i < c → Earliest g room (At n i) none) → Earliest g room (At n c) (some r) → Earliest g room (In n) (some r)
+  place-finds n c r before (d, x, l) = (d .0, x, λ s e y. at-place s e y)
+    where
+      later : (s : Reply) → In n s → c < place s → ¬ Earlier s r
+      later s e k (inl y) = omega (arith, d .0)
+      later s e k (inr (y, inl z)) = omega (arith, d .1)
+      later s e k (inr (y, inr (z, w))) = omega (arith, d .1)
+
+      at-place : (s : Reply) → In n s → Refuses g room s → ¬ Earlier s r
+      at-place s e y = elim (decLt (place s) c) [
+        | yes k ↦ absurd (before (place s) k s (e, refl) y)
+        | no k ↦ elim (decLt c (place s)) [ yes m ↦ later s e m | no m ↦ l s (e, omega arith) y ]
+      ]
+
+  -- every place passes
+  pub places-find : (n m : ℕ) → ((s : Reply) → In n s → Refuses g room s → place s < m) → ((i : ℕ) → i < m → Earliest g room (At n i) none) → Earliest g room (In n) none
+  places-find n m few all s e y = all (place s) (few s e y) s (e, refl) y

@@ -38,19 +38,32 @@ loop-less : tie.Need-loop-less Inv-loop μ-loop
 loop-less c = search needs
 
 loop-again : tie.Need-loop-again Inv-loop μ-loop
-loop-again c = 
+loop-again c =
     let s = c .before .before .args .t1 in
     let d = c .before .before .args .report .now in
     let i = c .before .loop .i in
-    let inv = c .before .loop .inv .1 .1 .1 .1 .1 in
-    (search needs, (search needs, (search needs, (search needs, (search needs,
-    ap (λ l. set l i (getD s i 0)) inv ∙ turn s d i 0 (omega arith) (omega arith))))))
+    let inv = c .before .loop .inv .1 .1 .1 .1 .1 in (
+      search needs,
+      (
+        search needs,
+        (
+          search needs,
+          (
+            search needs,
+            (
+              search needs,
+              ap (λ l. set l i (getD s i 0)) inv ∙ turn s d i 0 (omega arith) (omega arith),
+            ),
+          ),
+        ),
+      ),
+    )
 
 same-length : tie.Need-same-length Inv-loop μ-loop
 same-length c = search needs
 
 returns : tie.Need-returns Inv-loop μ-loop
-returns c = 
+returns c =
     let e : c .before .loop .i ≡ c .before .before .args .n = omega arith in
     rw e at (c .before .loop .inv .1 .1 .1 .1 .1)
 
