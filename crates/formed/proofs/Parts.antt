@@ -12,7 +12,7 @@ use Rattle.graph.specs.Memory.{MemoryLink, MemoryRates, pad, laid-rates, view-r
 use Rattle.graph.proofs.Laid.{pad-of, of-pad}
 use Rattle.format.specs.Ranges.{Tokens, RatesRange}
 use Rattle.numbers.proofs.Lists.{all-at, at-all}
-use Rattle.formed.specs.Formed.{Tells, Zeros, SideFormed, ChannelFormed, Places}
+use Rattle.formed.specs.Formed.{Tells, Zeros, SideFormed, ChannelFormed, Place, Places}
 
 -- ---- lists of zeros
 
@@ -104,27 +104,35 @@ channel-sides n c f = (
   record { padded = ap (λ (x : MemoryLink). x .consumption) (f .padded); ranged = f .ranged .consumption },
 )
 
+-- what is read past the end of a list of channels
+abbrev pub no-link : MemoryLink
+no-link =
+    let none : MemoryRates = record { prefix = []; plen = 0; cycle = []; clen = 0 } in
+    record { producer = 0; consumer = 0; initial = 0; size = 0; production = none; consumption = none }
+
 -- ---- an array of so many places, place by place
 
--- what is asked of place i, which holds x
-pub record Place {A : Type 0} (P : A → Type 0) (z : A) (n i : ℕ) (x : A) : Type 0 where
-  pub used : i < n → P x
-  pub unused : n ≤ i → x ≡ z
+-- past no end, what stands past the end plays no part
+at-any : {A : Type 0} (xs : List A) (i : ℕ) (d e : A) → i < length xs → getD xs i d ≡ getD xs i e
+at-any [] i d e h = absurd (omega arith)
+at-any (x ∷ xs) zero d e h = refl
+at-any (x ∷ xs) (suc i) d e h = at-any xs i d e (omega arith)
 
-module _ {A : Type 0} (P : A → Type 0) (size : ℕ) (z : A) (n : ℕ) (xs : List A) (few : n ≤ size) (long : length xs ≡ size) where
-  pub places-yes : ((i : ℕ) → i < size → Place P z n i (getD xs i z)) → Places P size z n xs
+-- d is what is read past the end
+module _ {A : Type 0} (P : A → Type 0) (size : ℕ) (z d : A) (n : ℕ) (xs : List A) (few : n ≤ size) (long : length xs ≡ size) where
+  pub places-yes : ((i : ℕ) → i < size → Place P z n i (getD xs i d)) → Places P size z n xs
   places-yes f =
       record {
-        padded = pad-of size z xs n long few (λ i a b. f i b .unused a);
+        padded = pad-of size z xs n long few (λ i a b. at-any xs i z d (omega arith) ∙ f i b .unused a);
         used =
             let l : length (take n xs) ≡ n = length-take-le n xs (omega arith) in
-            at-all P (take n xs) z (λ i h. rw (getD-take n xs i z (omega arith)) (f i (omega arith) .used (omega arith)));
+            at-all P (take n xs) d (λ i h. rw (getD-take n xs i d (omega arith)) (f i (omega arith) .used (omega arith)));
       }
 
-  pub places-no : Places P size z n xs → (i : ℕ) → i < size → Place P z n i (getD xs i z)
+  pub places-no : Places P size z n xs → (i : ℕ) → i < size → Place P z n i (getD xs i d)
   places-no p i h =
       let l : length (take n xs) ≡ n = length-take-le n xs (omega arith) in
       record {
-        used = λ k. rw getD-take at (all-at P (take n xs) z (p .used) i (omega arith));
-        unused = λ k. of-pad size z xs n (p .padded) i k h;
+        used = λ k. rw getD-take at (all-at P (take n xs) d (p .used) i (omega arith));
+        unused = λ k. at-any xs i d z (omega arith) ∙ of-pad size z xs n (p .padded) i k h;
       }

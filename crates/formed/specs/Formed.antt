@@ -2,7 +2,7 @@
 use mathlib.Core.Path.{_≡_}
 use mathlib.Core.Bool.{Bool, true, false}
 use mathlib.Core.List.{List}
-use Prim.Native.Nat.{ℕ}
+use Prim.Native.Nat.{ℕ, _≤_, _<_}
 use lib.ListN.{length, take, replicate}
 use Rattle.numbers.specs.Lists.{All}
 use Rattle.graph.specs.Memory.{Memory, MemoryLink, MemoryRates, view, view-link, view-rates, pad, laid, laid-link, laid-rates}
@@ -33,6 +33,11 @@ pub record SideFormed (s : MemoryRates) : Type 0 where
 pub record ChannelFormed (count : ℕ) (c : MemoryLink) : Type 0 where
   pub padded : c ≡ laid-link (view-link c)
   pub ranged : LinkRange count (view-link c)
+
+-- what is asked of place i, which holds x, where n are used
+pub record Place {A : Type 0} (P : A → Type 0) (zero : A) (n i : ℕ) (x : A) : Type 0 where
+  pub used : i < n → P x
+  pub unused : n ≤ i → x ≡ zero
 
 -- an array of so many places: the first n each as P says, and zero behind them
 pub record Places {A : Type 0} (P : A → Type 0) (places : ℕ) (zero : A) (n : ℕ) (xs : List A) : Type 0 where

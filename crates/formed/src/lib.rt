@@ -10,7 +10,7 @@ ghost use lib.IntN.{natAbs};
 ghost use Rattle.graph.specs.Model.{million, no-task, no-rates, no-relation};
 ghost use Rattle.graph.specs.Memory.{laid-rates, zero-link};
 ghost use Rattle.format.specs.Ranges.{TaskRange, RelationRange};
-ghost use Rattle.formed.specs.Formed.{WellFormed, Tells, Zeros, SideFormed, ChannelFormed, Places};
+ghost use Rattle.formed.specs.Formed.{WellFormed, Tells, Zeros, SideFormed, ChannelFormed, Place, Places};
 
 // Whether each entry is zero.
 fn zeros(list: &[u16]) -> bool
@@ -224,6 +224,83 @@ fn relation_zero(r: Relation) -> bool
     }
     if r.d != 0 {
         return false;
+    }
+    true
+}
+
+// Whether place i, of which the first n are used, holds a task that is formed, or behind them zero.
+fn task_place(t: Task, i: usize, n: usize) -> bool
+    ensures { λ r. ⌜ Tells (Place TaskRange no-task n i t) r ⌝ }
+{
+    if i < n { task_formed(t) } else { task_zero(t) }
+}
+
+// The same of a channel among so many tasks.
+fn channel_place(c: Channel, i: usize, n: usize, count: usize) -> bool
+    ensures { λ r. ⌜ Tells (Place (ChannelFormed count) zero-link n i c) r ⌝ }
+{
+    if i < n {
+        channel_formed(c, count)
+    } else {
+        channel_zero(c)
+    }
+}
+
+// The same of a relation.
+fn relation_place(r: Relation, i: usize, n: usize, count: usize) -> bool
+    ensures { λ a. ⌜ Tells (Place (RelationRange count) no-relation n i r) a ⌝ }
+{
+    if i < n {
+        relation_formed(r, count)
+    } else {
+        relation_zero(r)
+    }
+}
+
+// Whether the first n places hold tasks that are formed, and the rest zero.
+fn tasks_formed(tasks: [Task; Graph::TASKS], n: usize) -> bool
+    requires { ⌜ n ≤ 32 ⌝ }
+    ensures { λ r. ⌜ Tells (Places TaskRange 32 no-task n tasks) r ⌝ }
+{
+    let mut i: usize = 0;
+    while i < Graph::TASKS {
+        let t = tasks[i];
+        if !task_place(t, i, n) {
+            return false;
+        }
+        i += 1;
+    }
+    true
+}
+
+// The same of channels among so many tasks.
+fn channels_formed(channels: [Channel; Graph::CHANNELS], n: usize, count: usize) -> bool
+    requires { ⌜ n ≤ 64 ⌝ }
+    ensures { λ r. ⌜ Tells (Places (ChannelFormed count) 64 zero-link n channels) r ⌝ }
+{
+    let mut i: usize = 0;
+    while i < Graph::CHANNELS {
+        let c = channels[i];
+        if !channel_place(c, i, n, count) {
+            return false;
+        }
+        i += 1;
+    }
+    true
+}
+
+// The same of relations.
+fn relations_formed(relations: [Relation; Graph::RELATIONS], n: usize, count: usize) -> bool
+    requires { ⌜ n ≤ 64 ⌝ }
+    ensures { λ a. ⌜ Tells (Places (RelationRange count) 64 no-relation n relations) a ⌝ }
+{
+    let mut i: usize = 0;
+    while i < Graph::RELATIONS {
+        let r = relations[i];
+        if !relation_place(r, i, n, count) {
+            return false;
+        }
+        i += 1;
     }
     true
 }
