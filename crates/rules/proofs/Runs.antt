@@ -78,15 +78,17 @@ module _ (g : Graph) (needs : ℕ → ℕ → ℕ) (runs : ℕ → Slot) (legal 
           other x (inl y) n = omega (arith, ap (λ m. tick i k (runs x) * m) (later-none k x y (n y)))
           other x (inr y) n = omega (arith, ap (λ m. m * moves-of g runs i r x) y)
 
-pub execution : (g : Graph) → Usable g → (needs : ℕ → ℕ → ℕ) → ((i k : ℕ) → i < count g → (1 ≤ needs i k) × (needs i k ≤ cost g i)) → Execution g
+pub execution : (g : Graph) → Usable g → (needs : ℕ → ℕ → ℕ) → ((i k : ℕ) → i < count g → (1 ≤ needs i k) × (needs i k ≤ cost g i)) → (e : Execution g) × (e .needs ≡ needs)
 execution g ok needs long =
-    let (runs, legal) = exists (machine g) 0 needs (λ j m. let t = ok .timed j (m .counted) in omega arith) (λ i k m. long i k (m .counted)) in
-    record {
-      needs = needs;
-      runs = runs;
-      legal = legal;
-      puts = λ c. moves-of g runs (link g c .producer) (link g c .production);
-      takes = λ c. moves-of g runs (link g c .consumer) (link g c .consumption);
-      putting = λ c l. moving g needs runs legal (link g c .producer) (ok .ends c l .producer-known) (link g c .production);
-      taking = λ c l. moving g needs runs legal (link g c .consumer) (ok .ends c l .consumer-known) (link g c .consumption);
-    }
+    let (runs, legal) = exists (machine g) 0 needs (λ j m. let t = ok .timed j (m .counted) in omega arith) (λ i k m. long i k (m .counted)) in (
+      record {
+        needs = needs;
+        runs = runs;
+        legal = legal;
+        puts = λ c. moves-of g runs (link g c .producer) (link g c .production);
+        takes = λ c. moves-of g runs (link g c .consumer) (link g c .consumption);
+        putting = λ c l. moving g needs runs legal (link g c .producer) (ok .ends c l .producer-known) (link g c .production);
+        taking = λ c l. moving g needs runs legal (link g c .consumer) (ok .ends c l .consumer-known) (link g c .consumption);
+      },
+      refl,
+    )
