@@ -2,3 +2,5 @@ pub mod Tells
 pub mod Parts
 pub mod Zero
 pub mod Phase
+pub mod Whole
+pub mod Exact

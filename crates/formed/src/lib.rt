@@ -304,3 +304,34 @@ fn relations_formed(relations: [Relation; Graph::RELATIONS], n: usize, count: us
     }
     true
 }
+
+// Whether some file reads as the graph.
+pub fn formed(graph: Graph) -> bool
+    ensures { λ r. ⌜ Tells (WellFormed graph) r ⌝ }
+{
+    let count = graph.ntasks;
+    let nchannels = graph.nchannels;
+    let nrelations = graph.nrelations;
+    if count < 1 {
+        return false;
+    }
+    if Graph::TASKS < count {
+        return false;
+    }
+    if Graph::CHANNELS < nchannels {
+        return false;
+    }
+    if Graph::RELATIONS < nrelations {
+        return false;
+    }
+    let tasks = graph.tasks;
+    if !tasks_formed(tasks, count) {
+        return false;
+    }
+    let channels = graph.channels;
+    if !channels_formed(channels, nchannels, count) {
+        return false;
+    }
+    let relations = graph.relations;
+    relations_formed(relations, nrelations, count)
+}

@@ -1,53 +1,41 @@
-use borrow.Author.Tests.{not-true, not-false}
+-- `formed::channel_formed` meets its contract. Assumes nothing.
 use native.Mathlib.Omega.{arith}
+use borrow.Author.Tests.{not-true, not-false}
+use borrow.Author.Needs.{needs}
 use Rattle.formed.proofs.Tells.{no, told}
 use Rattle.formed.proofs.Parts.{channel-yes, channel-sides}
-use borrow.Author.Needs.{needs}
 use Rattle.formed.proofs.channel_formed.Statement.{statement}
 use Rattle.formed.proofs.channel_formed.Tie as tie
-use Rattle.formed.proofs.channel_formed.Reads as reads
-use Rattle.formed.proofs.channel_formed.Lts as lts
-use Rattle.formed.proofs.side_formed.Reads as side-formed-reads
 
--- src/lib.rt:127:17
 cast-if1 : tie.Need-cast-if1
 cast-if1 c = search needs
 
--- src/lib.rt:128:9
 returns : tie.Need-returns
 returns c = no (λ h. omega arith)
 
--- src/lib.rt:130:17
 cast-if2 : tie.Need-cast-if2
 cast-if2 c = search needs
 
--- src/lib.rt:131:9
 returns-2 : tie.Need-returns-2
 returns-2 c = no (λ h. omega arith)
 
--- src/lib.rt:134:9
 returns-3 : tie.Need-returns-3
 returns-3 c = no (λ h. omega arith)
 
--- src/lib.rt:137:9
 returns-4 : tie.Need-returns-4
 returns-4 c = no (λ h. omega arith)
 
--- src/lib.rt:140:9
 side-formed-requires : tie.Need-side-formed-requires
 side-formed-requires c κs = search needs
 
--- src/lib.rt:141:9
 returns-5 : tie.Need-returns-5
 returns-5 c =
     let t = c .before .before .before .before .before .before .before .before .before .before .before .args in
     no (λ h. c .before .side-formed .ensures .no (not-true (c .before .side-formed .result) (c .if5 .taken)) (channel-sides (t .count) (t .c) h .0))
 
--- src/lib.rt:144:5
 side-formed-requires-2 : tie.Need-side-formed-requires-2
 side-formed-requires-2 c κs = search needs
 
--- src/lib.rt:124:1
 returns-6 : tie.Need-returns-6
 returns-6 c =
     let t = c .before .before .before .before .before .before .before .before .before .before .before .before .before .args in

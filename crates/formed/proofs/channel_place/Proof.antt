@@ -1,27 +1,20 @@
+-- `formed::channel_place` meets its contract. Assumes nothing.
 use native.Mathlib.Omega.{arith}
-use Rattle.formed.proofs.Tells.{told}
 use borrow.Author.Needs.{needs}
+use Rattle.formed.proofs.Tells.{told}
 use Rattle.formed.proofs.channel_place.Statement.{statement}
 use Rattle.formed.proofs.channel_place.Tie as tie
-use Rattle.formed.proofs.channel_place.Reads as reads
-use Rattle.formed.proofs.channel_place.Lts as lts
-use Rattle.formed.proofs.channel_formed.Reads as channel-formed-reads
-use Rattle.formed.proofs.channel_zero.Reads as channel-zero-reads
 
--- src/lib.rt:247:9
 channel-formed-requires : tie.Need-channel-formed-requires
 channel-formed-requires c κs = search needs
 
--- src/lib.rt:249:9
 channel-zero-requires : tie.Need-channel-zero-requires
 channel-zero-requires c κs = search needs
 
--- src/lib.rt:243:1
 returns : tie.Need-returns
 returns c =
     told (c .channel-formed .result) (λ f. record { used = λ h. f; unused = λ h. absurd (omega arith) }) (λ p. p .used (omega arith)) (c .channel-formed .ensures)
 
--- src/lib.rt:243:1
 returns-2 : tie.Need-returns-2
 returns-2 c =
     told (c .channel-zero .result) (λ e. record { used = λ h. absurd (omega arith); unused = λ h. e }) (λ p. p .unused (omega arith)) (c .channel-zero .ensures)

@@ -1,45 +1,35 @@
+-- `formed::channel_zero` meets its contract. Assumes nothing.
 use mathlib.Core.Path.{ap}
-use borrow.Author.Tests.{not-true, not-false}
 use native.Mathlib.Omega.{arith}
+use borrow.Author.Tests.{not-true, not-false}
+use borrow.Author.Needs.{needs}
 use Rattle.graph.specs.Memory.{MemoryLink}
 use Rattle.formed.proofs.Tells.{no, told}
 use Rattle.formed.proofs.Zero.{channel-zero}
-use borrow.Author.Needs.{needs}
 use Rattle.formed.proofs.channel_zero.Statement.{statement}
 use Rattle.formed.proofs.channel_zero.Tie as tie
-use Rattle.formed.proofs.channel_zero.Reads as reads
-use Rattle.formed.proofs.channel_zero.Lts as lts
-use Rattle.formed.proofs.side_zero.Reads as side-zero-reads
 
--- src/lib.rt:152:9
 returns : tie.Need-returns
 returns c = no (λ h. omega (arith, ap (λ (x : MemoryLink). x .producer) h))
 
--- src/lib.rt:155:9
 returns-2 : tie.Need-returns-2
 returns-2 c = no (λ h. omega (arith, ap (λ (x : MemoryLink). x .consumer) h))
 
--- src/lib.rt:158:9
 returns-3 : tie.Need-returns-3
 returns-3 c = no (λ h. omega (arith, ap (λ (x : MemoryLink). x .initial) h))
 
--- src/lib.rt:161:9
 returns-4 : tie.Need-returns-4
 returns-4 c = no (λ h. omega (arith, ap (λ (x : MemoryLink). x .size) h))
 
--- src/lib.rt:164:9
 side-zero-requires : tie.Need-side-zero-requires
 side-zero-requires c κs = search needs
 
--- src/lib.rt:165:9
 returns-5 : tie.Need-returns-5
 returns-5 c = no (λ h. c .before .side-zero .ensures .no (not-true (c .before .side-zero .result) (c .if5 .taken)) (ap (λ (x : MemoryLink). x .production) h))
 
--- src/lib.rt:168:5
 side-zero-requires-2 : tie.Need-side-zero-requires-2
 side-zero-requires-2 c κs = search needs
 
--- src/lib.rt:148:1
 returns-6 : tie.Need-returns-6
 returns-6 c =
     let s = c .before .before .before .side-zero in

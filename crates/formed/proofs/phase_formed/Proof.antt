@@ -1,3 +1,4 @@
+-- `formed::phase_formed` meets its contract. Assumes nothing.
 use mathlib.Core.Path.{_∙_, sym, ap}
 use lib.IntN.{pos, negsuc}
 use lib.Signed.{ltZ}
@@ -7,18 +8,13 @@ use Rattle.formed.proofs.Tells.{yes, no}
 use Rattle.formed.proofs.Phase.{below, above, between}
 use Rattle.formed.proofs.phase_formed.Statement.{statement}
 use Rattle.formed.proofs.phase_formed.Tie as tie
-use Rattle.formed.proofs.phase_formed.Reads as reads
-use Rattle.formed.proofs.phase_formed.Lts as lts
 
--- src/lib.rt:176:9
 returns : tie.Need-returns
 returns c = no (below (c .before .args .phi) (ap (λ z. ltZ z (negsuc 999999)) (sym (toZ-ofZ {w = w32} (c .before .fits .phi))) ∙ c .if1 .taken))
 
--- src/lib.rt:179:9
 returns-2 : tie.Need-returns-2
 returns-2 c = no (above (c .before .before .args .phi) (ap (λ z. ltZ (pos 1000000) z) (sym (toZ-ofZ {w = w32} (c .before .before .fits .phi))) ∙ c .if2 .taken))
 
--- src/lib.rt:172:1
 returns-3 : tie.Need-returns-3
 returns-3 c =
     let e = sym (toZ-ofZ {w = w32} (c .before .before .fits .phi)) in

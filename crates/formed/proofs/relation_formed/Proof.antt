@@ -1,56 +1,44 @@
+-- `formed::relation_formed` meets its contract. Assumes nothing.
 use mathlib.Core.Path.{_≡_}
 use Prim.Native.Nat.{_≤_}
+use native.Mathlib.Omega.{arith}
+use borrow.Author.Needs.{needs}
 use lib.IntN.{natAbs}
 use mir.Syntax.{w32}
 use mir.Val.{toZ, ofZ}
 use Rattle.graph.specs.Model.{million}
 use Rattle.formed.specs.Formed.{Tells}
-use native.Mathlib.Omega.{arith}
 use Rattle.formed.proofs.Tells.{no, told}
-use borrow.Author.Needs.{needs}
 use Rattle.formed.proofs.relation_formed.Statement.{statement}
 use Rattle.formed.proofs.relation_formed.Tie as tie
-use Rattle.formed.proofs.relation_formed.Reads as reads
-use Rattle.formed.proofs.relation_formed.Lts as lts
-use Rattle.formed.proofs.phase_formed.Reads as phase-formed-reads
 
--- src/lib.rt:188:17
 cast-if1 : tie.Need-cast-if1
 cast-if1 c = search needs
 
--- src/lib.rt:189:9
 returns : tie.Need-returns
 returns c = no (λ h. omega arith)
 
--- src/lib.rt:191:17
 cast-if2 : tie.Need-cast-if2
 cast-if2 c = search needs
 
--- src/lib.rt:192:9
 returns-2 : tie.Need-returns-2
 returns-2 c = no (λ h. omega arith)
 
--- src/lib.rt:195:9
 returns-3 : tie.Need-returns-3
 returns-3 c = no (λ h. omega arith)
 
--- src/lib.rt:198:9
 returns-4 : tie.Need-returns-4
 returns-4 c = no (λ h. omega arith)
 
--- src/lib.rt:201:9
 returns-5 : tie.Need-returns-5
 returns-5 c = no (λ h. omega arith)
 
--- src/lib.rt:204:9
 returns-6 : tie.Need-returns-6
 returns-6 c = no (λ h. omega arith)
 
--- src/lib.rt:206:5
 phase-formed-requires : tie.Need-phase-formed-requires
 phase-formed-requires c κs = search needs
 
--- src/lib.rt:185:1
 returns-7 : tie.Need-returns-7
 returns-7 c =
     let phi = c .before .before .before .before .before .before .before .before .before .before .before .before .before .before .args .r .phi in

@@ -1,37 +1,30 @@
+-- `formed::relation_zero` meets its contract. Assumes nothing.
 use mathlib.Core.Path.{_≡_, sym, ap, _∙_}
+use native.Mathlib.Omega.{arith}
 use borrow.Author.Needs.{needs}
 use mir.Syntax.{w32}
 use mir.Val.{toZ, ofZ}
-use native.Mathlib.Omega.{arith}
 use Rattle.graph.specs.declared.Relation.{Relation}
 use Rattle.formed.proofs.Tells.{no, yes}
 use Rattle.formed.proofs.Zero.{relation-zero}
 use Rattle.formed.proofs.relation_zero.Statement.{statement}
 use Rattle.formed.proofs.relation_zero.Tie as tie
-use Rattle.formed.proofs.relation_zero.Reads as reads
-use Rattle.formed.proofs.relation_zero.Lts as lts
 
--- src/lib.rt:214:9
 returns : tie.Need-returns
 returns c = no (λ h. omega (arith, ap (λ (x : Relation). x .p) h))
 
--- src/lib.rt:217:9
 returns-2 : tie.Need-returns-2
 returns-2 c = no (λ h. omega (arith, ap (λ (x : Relation). x .q) h))
 
--- src/lib.rt:220:9
 returns-3 : tie.Need-returns-3
 returns-3 c = no (λ h. omega (arith, ap (λ (x : Relation). x .n) h))
 
--- src/lib.rt:223:9
 returns-4 : tie.Need-returns-4
 returns-4 c = no (λ h. c .if4 .taken (ap (λ (x : Relation). ofZ w32 (x .phi)) h))
 
--- src/lib.rt:226:9
 returns-5 : tie.Need-returns-5
 returns-5 c = no (λ h. omega (arith, ap (λ (x : Relation). x .d) h))
 
--- src/lib.rt:210:1
 returns-6 : tie.Need-returns-6
 returns-6 c =
     let phi = c .before .before .before .before .before .before .before .before .before .before .before .args .r .phi in

@@ -1,21 +1,18 @@
+-- `formed::relations_formed` meets its contract. Assumes nothing.
 use mathlib.Core.Path.{_≡_}
 use Prim.Native.Nat.{ℕ, _≤_, _<_, _-_}
-use lib.ListN.{length, getD}
+use native.Mathlib.Omega.{arith}
 use borrow.Author.Needs.{needs}
 use borrow.Author.Count.{below-more}
 use borrow.Author.Tests.{not-true, not-false}
-use native.Mathlib.Omega.{arith}
-use Rattle.graph.specs.Model.{no-task, no-relation}
-use Rattle.graph.specs.Memory.{zero-link}
-use Rattle.format.specs.Ranges.{TaskRange, RelationRange}
-use Rattle.formed.specs.Formed.{ChannelFormed, Place}
+use lib.ListN.{length, getD}
+use Rattle.graph.specs.Model.{no-relation}
+use Rattle.format.specs.Ranges.{RelationRange}
+use Rattle.formed.specs.Formed.{Place}
 use Rattle.formed.proofs.Tells.{yes, no}
 use Rattle.formed.proofs.Parts.{places-yes, places-no}
 use Rattle.formed.proofs.relations_formed.Statement.{statement}
 use Rattle.formed.proofs.relations_formed.Tie as tie
-use Rattle.formed.proofs.relations_formed.Reads as reads
-use Rattle.formed.proofs.relations_formed.Lts as lts
-use Rattle.formed.proofs.relation_place.Reads as relation-place-reads
 
 abbrev Inv-loop : tie.InvT-loop
 Inv-loop n count relations i₀ i =
@@ -24,23 +21,18 @@ Inv-loop n count relations i₀ i =
 abbrev μ-loop : tie.MeasureT-loop
 μ-loop n count relations i₀ i = 64 - i
 
--- src/lib.rt:302:5
 loop-holds : tie.Need-loop-holds Inv-loop μ-loop
 loop-holds c = (omega arith, λ k h. absurd (omega arith))
 
--- src/lib.rt:303:17
 mul-r : tie.Need-mul-r Inv-loop μ-loop
 mul-r c = search needs
 
--- src/lib.rt:303:17
 array-copy-out-r : tie.Need-array-copy-out-r Inv-loop μ-loop
 array-copy-out-r c = search needs
 
--- src/lib.rt:304:13
 relation-place-requires : tie.Need-relation-place-requires Inv-loop μ-loop
 relation-place-requires c κs = search needs
 
--- src/lib.rt:305:13
 returns : tie.Need-returns Inv-loop μ-loop
 returns c =
     let t = c .before .before .before .before .before .args in
@@ -48,21 +40,17 @@ returns c =
     let r = c .before .relation-place in
     no (λ p. r .ensures .no (not-true (r .result) (c .if1 .taken)) (places-no (RelationRange (t .count)) 64 no-relation no-relation (t .n) (t .t1) (omega arith) l p (c .before .before .before .before .loop .i) (omega arith)))
 
--- src/lib.rt:307:9
 add-i : tie.Need-add-i Inv-loop μ-loop
 add-i c = search needs
 
--- src/lib.rt:302:5
 loop-less : tie.Need-loop-less Inv-loop μ-loop
 loop-less c = search needs
 
--- src/lib.rt:302:5
 loop-again : tie.Need-loop-again Inv-loop μ-loop
 loop-again c =
     let r = c .before .relation-place in
     (search needs, below-more _ _ (c .before .before .before .before .loop .inv .1) (r .ensures .yes (not-false (r .result) (c .if1 .left))))
 
--- src/lib.rt:297:1
 returns-2 : tie.Need-returns-2 Inv-loop μ-loop
 returns-2 c =
     let t = c .before .before .args in

@@ -1,20 +1,17 @@
+-- `formed::side_formed` meets its contract. Assumes nothing.
 use mathlib.Core.Path.{_≡_}
-use Prim.Native.Nat.{ℕ, _≤_, _<_}
-use lib.ListN.{length, getD, drop}
+use Prim.Native.Nat.{ℕ, _<_}
+use native.Mathlib.Omega.{arith}
+use borrow.Author.Tests.{not-true, not-false}
+use borrow.Author.Needs.{needs}
+use lib.ListN.{length, getD}
 use mir.Syntax.{w16}
 use mir.Val.{Fits}
-use borrow.Author.Tests.{not-true, not-false}
-use native.Mathlib.Omega.{arith}
 use Rattle.formed.proofs.Tells.{no, told}
 use Rattle.formed.proofs.Parts.{rest-told, side-yes, side-no}
-use borrow.Author.Needs.{needs}
 use Rattle.formed.proofs.side_formed.Statement.{statement}
 use Rattle.formed.proofs.side_formed.Tie as tie
-use Rattle.formed.proofs.side_formed.Reads as reads
-use Rattle.formed.proofs.side_formed.Lts as lts
-use Rattle.formed.proofs.zeros.Reads as zeros-reads
 
--- src/lib.rt:32:9
 returns : tie.Need-returns
 returns c =
     let s = c .before .args .s in
@@ -22,7 +19,6 @@ returns c =
     let q : length (c .before .args .s .cycle) ≡ 32 = search needs in
     no (λ f. omega (arith, side-no s p q f .prefix))
 
--- src/lib.rt:35:9
 returns-2 : tie.Need-returns-2
 returns-2 c =
     let s = c .before .before .args .s in
@@ -30,7 +26,6 @@ returns-2 c =
     let q : length (c .before .before .args .s .cycle) ≡ 32 = search needs in
     no (λ f. omega (arith, side-no s p q f .some-entry))
 
--- src/lib.rt:38:9
 returns-3 : tie.Need-returns-3
 returns-3 c =
     let s = c .before .before .before .args .s in
@@ -38,25 +33,20 @@ returns-3 c =
     let q : length (c .before .before .before .args .s .cycle) ≡ 32 = search needs in
     no (λ f. omega (arith, side-no s p q f .cycle))
 
--- src/lib.rt:41:15
 mul-zeros : tie.Need-mul-zeros
 mul-zeros c = search needs
 
--- src/lib.rt:41:15
 part-zeros-start : tie.Need-part-zeros-start
 part-zeros-start c = search needs
 
--- src/lib.rt:41:15
 part-zeros-end : tie.Need-part-zeros-end
 part-zeros-end c =
     let p : length (c .before .before .before .before .before .args .s .prefix) ≡ 16 = search needs in
     omega arith
 
--- src/lib.rt:41:9
 zeros-requires : tie.Need-zeros-requires
 zeros-requires c κs = search needs
 
--- src/lib.rt:42:9
 returns-4 : tie.Need-returns-4
 returns-4 c =
     let s = c .before .before .before .before .before .before .before .before .args .s in
@@ -64,25 +54,20 @@ returns-4 c =
     let q : length (c .before .before .before .before .before .before .before .before .args .s .cycle) ≡ 32 = search needs in
     no (λ f. rest-told 16 (s .prefix) (s .plen) p (c .before .zeros .result) (c .before .zeros .ensures) .no (not-true (c .before .zeros .result) (c .if4 .taken)) (side-no s p q f .prefix-rest))
 
--- src/lib.rt:45:11
 mul-zeros-2 : tie.Need-mul-zeros-2
 mul-zeros-2 c = search needs
 
--- src/lib.rt:45:11
 part-zeros-start-2 : tie.Need-part-zeros-start-2
 part-zeros-start-2 c = search needs
 
--- src/lib.rt:45:11
 part-zeros-end-2 : tie.Need-part-zeros-end-2
 part-zeros-end-2 c =
     let q : length (c .before .before .before .before .before .before .before .before .before .before .args .s .cycle) ≡ 32 = search needs in
     omega arith
 
--- src/lib.rt:45:5
 zeros-requires-2 : tie.Need-zeros-requires-2
 zeros-requires-2 c κs = search needs
 
--- src/lib.rt:26:1
 returns-5 : tie.Need-returns-5
 returns-5 c =
     let s = c .before .before .before .before .before .before .before .before .before .before .before .before .args .s in

@@ -1,34 +1,27 @@
+-- `formed::side_zero` meets its contract. Assumes nothing.
 use mathlib.Core.Path.{_≡_, ap}
-use lib.ListN.{length}
-use borrow.Author.Tests.{not-true, not-false}
 use native.Mathlib.Omega.{arith}
+use borrow.Author.Tests.{not-true, not-false}
+use borrow.Author.Needs.{needs}
+use lib.ListN.{length}
 use Rattle.graph.specs.Memory.{MemoryRates}
 use Rattle.formed.proofs.Tells.{no, told}
 use Rattle.formed.proofs.Zero.{side-zero, zero-side}
-use borrow.Author.Needs.{needs}
 use Rattle.formed.proofs.side_zero.Statement.{statement}
 use Rattle.formed.proofs.side_zero.Tie as tie
-use Rattle.formed.proofs.side_zero.Reads as reads
-use Rattle.formed.proofs.side_zero.Lts as lts
-use Rattle.formed.proofs.zeros.Reads as zeros-reads
 
--- src/lib.rt:110:9
 returns : tie.Need-returns
 returns c = no (λ h. omega (arith, ap (λ (x : MemoryRates). x .plen) h))
 
--- src/lib.rt:113:9
 returns-2 : tie.Need-returns-2
 returns-2 c = no (λ h. omega (arith, ap (λ (x : MemoryRates). x .clen) h))
 
--- src/lib.rt:116:15
 slice-aggregate-zeros : tie.Need-slice-aggregate-zeros
 slice-aggregate-zeros c = search needs
 
--- src/lib.rt:116:9
 zeros-requires : tie.Need-zeros-requires
 zeros-requires c κs = search needs
 
--- src/lib.rt:117:9
 returns-3 : tie.Need-returns-3
 returns-3 c =
     let s = c .before .before .before .before .before .before .before .before .args .s in
@@ -36,15 +29,12 @@ returns-3 c =
     let q : length (c .before .before .before .before .before .before .before .before .args .s .cycle) ≡ 32 = search needs in
     no (λ e. c .before .zeros .ensures .no (not-true (c .before .zeros .result) (c .if3 .taken)) (zero-side s p q e .0))
 
--- src/lib.rt:120:11
 slice-aggregate-zeros-2 : tie.Need-slice-aggregate-zeros-2
 slice-aggregate-zeros-2 c = search needs
 
--- src/lib.rt:120:5
 zeros-requires-2 : tie.Need-zeros-requires-2
 zeros-requires-2 c κs = search needs
 
--- src/lib.rt:106:1
 returns-4 : tie.Need-returns-4
 returns-4 c =
     let s = c .before .before .before .before .before .before .before .before .before .before .before .args .s in

@@ -1,27 +1,20 @@
+-- `formed::task_place` meets its contract. Assumes nothing.
 use native.Mathlib.Omega.{arith}
-use Rattle.formed.proofs.Tells.{told}
 use borrow.Author.Needs.{needs}
+use Rattle.formed.proofs.Tells.{told}
 use Rattle.formed.proofs.task_place.Statement.{statement}
 use Rattle.formed.proofs.task_place.Tie as tie
-use Rattle.formed.proofs.task_place.Reads as reads
-use Rattle.formed.proofs.task_place.Lts as lts
-use Rattle.formed.proofs.task_formed.Reads as task-formed-reads
-use Rattle.formed.proofs.task_zero.Reads as task-zero-reads
 
--- src/lib.rt:236:9
 task-formed-requires : tie.Need-task-formed-requires
 task-formed-requires c κs = search needs
 
--- src/lib.rt:238:9
 task-zero-requires : tie.Need-task-zero-requires
 task-zero-requires c κs = search needs
 
--- src/lib.rt:232:1
 returns : tie.Need-returns
 returns c =
     told (c .task-formed .result) (λ f. record { used = λ h. f; unused = λ h. absurd (omega arith) }) (λ p. p .used (omega arith)) (c .task-formed .ensures)
 
--- src/lib.rt:232:1
 returns-2 : tie.Need-returns-2
 returns-2 c =
     told (c .task-zero .result) (λ e. record { used = λ h. absurd (omega arith); unused = λ h. e }) (λ p. p .unused (omega arith)) (c .task-zero .ensures)

@@ -1,5 +1,5 @@
 -- `formed::task_zero` meets its contract. Assumes nothing.
-use mathlib.Core.Path.{_≡_, ap}
+use mathlib.Core.Path.{ap}
 use native.Mathlib.Omega.{arith}
 use Rattle.graph.specs.declared.Task.{Task}
 use Rattle.formed.proofs.Tells.{yes, no}

@@ -1,21 +1,18 @@
+-- `formed::tasks_formed` meets its contract. Assumes nothing.
 use mathlib.Core.Path.{_≡_}
 use Prim.Native.Nat.{ℕ, _≤_, _<_, _-_}
-use lib.ListN.{length, getD}
+use native.Mathlib.Omega.{arith}
 use borrow.Author.Needs.{needs}
 use borrow.Author.Count.{below-more}
 use borrow.Author.Tests.{not-true, not-false}
-use native.Mathlib.Omega.{arith}
-use Rattle.graph.specs.Model.{no-task, no-relation}
-use Rattle.graph.specs.Memory.{zero-link}
-use Rattle.format.specs.Ranges.{TaskRange, RelationRange}
-use Rattle.formed.specs.Formed.{ChannelFormed, Place}
+use lib.ListN.{length, getD}
+use Rattle.graph.specs.Model.{no-task}
+use Rattle.format.specs.Ranges.{TaskRange}
+use Rattle.formed.specs.Formed.{Place}
 use Rattle.formed.proofs.Tells.{yes, no}
 use Rattle.formed.proofs.Parts.{places-yes, places-no}
 use Rattle.formed.proofs.tasks_formed.Statement.{statement}
 use Rattle.formed.proofs.tasks_formed.Tie as tie
-use Rattle.formed.proofs.tasks_formed.Reads as reads
-use Rattle.formed.proofs.tasks_formed.Lts as lts
-use Rattle.formed.proofs.task_place.Reads as task-place-reads
 
 abbrev Inv-loop : tie.InvT-loop
 Inv-loop n tasks i₀ i =
@@ -24,23 +21,18 @@ Inv-loop n tasks i₀ i =
 abbrev μ-loop : tie.MeasureT-loop
 μ-loop n tasks i₀ i = 32 - i
 
--- src/lib.rt:270:5
 loop-holds : tie.Need-loop-holds Inv-loop μ-loop
 loop-holds c = (omega arith, λ k h. absurd (omega arith))
 
--- src/lib.rt:271:17
 mul-t : tie.Need-mul-t Inv-loop μ-loop
 mul-t c = search needs
 
--- src/lib.rt:271:17
 array-copy-out-t : tie.Need-array-copy-out-t Inv-loop μ-loop
 array-copy-out-t c = search needs
 
--- src/lib.rt:272:13
 task-place-requires : tie.Need-task-place-requires Inv-loop μ-loop
 task-place-requires c κs = search needs
 
--- src/lib.rt:273:13
 returns : tie.Need-returns Inv-loop μ-loop
 returns c =
     let t = c .before .before .before .before .before .args in
@@ -48,21 +40,17 @@ returns c =
     let r = c .before .task-place in
     no (λ p. r .ensures .no (not-true (r .result) (c .if1 .taken)) (places-no TaskRange 32 no-task no-task (t .n) (t .t1) (omega arith) l p (c .before .before .before .before .loop .i) (omega arith)))
 
--- src/lib.rt:275:9
 add-i : tie.Need-add-i Inv-loop μ-loop
 add-i c = search needs
 
--- src/lib.rt:270:5
 loop-less : tie.Need-loop-less Inv-loop μ-loop
 loop-less c = search needs
 
--- src/lib.rt:270:5
 loop-again : tie.Need-loop-again Inv-loop μ-loop
 loop-again c =
     let r = c .before .task-place in
     (search needs, below-more _ _ (c .before .before .before .before .loop .inv .1) (r .ensures .yes (not-false (r .result) (c .if1 .left))))
 
--- src/lib.rt:265:1
 returns-2 : tie.Need-returns-2 Inv-loop μ-loop
 returns-2 c =
     let t = c .before .before .args in

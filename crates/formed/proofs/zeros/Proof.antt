@@ -1,10 +1,10 @@
 -- `formed::zeros` meets its contract. Assumes nothing.
 use mathlib.Core.Path.{_≡_}
 use Prim.Native.Nat.{ℕ, _≤_, _<_, _-_}
-use lib.ListN.{length, getD}
+use native.Mathlib.Omega.{arith}
 use borrow.Author.Needs.{needs}
 use borrow.Author.Count.{below-more}
-use native.Mathlib.Omega.{arith}
+use lib.ListN.{length, getD}
 use Rattle.formed.proofs.Tells.{yes, no}
 use Rattle.formed.proofs.Parts.{zeros-at, at-zeros}
 use Rattle.formed.proofs.zeros.Statement.{statement}
