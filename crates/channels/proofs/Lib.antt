@@ -1,3 +1,4 @@
 pub mod Fits
 pub mod Multiples
 pub mod Running
+pub mod Deciding

@@ -1,10 +1,10 @@
 // The judgement of one channel: initial fill, balance, window, underflow, overflow.
 ghost use mathlib.Core.Path.{_≡_};
-ghost use Prim.Native.Nat.{ℕ, _+_, _*_, _≤_, _<_};
+ghost use Prim.Native.Nat.{ℕ, _+_, _*_, _-_, _≤_, _<_, min};
 ghost use lib.Dec.{eqb};
 ghost use lib.ListN.{length};
 ghost use Rattle.channels.specs.Sides.{sideOf, turnOf, Turned};
-ghost use Rattle.channels.specs.Answers.{Spans, Measured, Searchable, Finds};
+ghost use Rattle.channels.specs.Answers.{Spans, Measured, Searchable, Finds, Countable, jobsOf, Repeats, Decides};
 use graph::list_at;
 use graph::next_place;
 
@@ -120,4 +120,46 @@ fn first_short<'a>(
         }
     }
     Search::Nothing
+}
+
+// What is left of a after b; nothing where b is larger.
+fn left(a: u64, b: u64) -> u64
+    ensures { λ r. ⌜ r ≡ a - b ⌝ }
+{
+    if b < a { a - b } else { 0 }
+}
+
+// How many jobs of the taker decide all: past both prefixes and the later offset, one length more.
+fn jobs(tplen: usize, gplen: usize, taker: Pace, giver: Pace, length: u64) -> u64
+    requires { ⌜ Countable tplen gplen taker giver length ⌝ }
+    ensures { λ r. ⌜ r ≡ jobsOf tplen gplen taker giver length ⌝ }
+{
+    let start = taker.offset;
+    let period = taker.period;
+    let end = giver.offset + gplen as u64 * giver.period + giver.window;
+    tplen as u64 + left(end, start) / period + 1 + length / period
+}
+
+// The first short job of the taker's, of all jobs without end.
+fn decide<'a>(
+    tprefix: &'a [u16],
+    tcycle: &'a [u16],
+    gprefix: &'a [u16],
+    gcycle: &'a [u16],
+    taker: Pace,
+    giver: Pace,
+    stock: u64,
+    length: u64,
+) -> Search
+    requires { ⌜ Repeats (sideOf taker (now tprefix) (now tcycle)) (sideOf giver (now gprefix) (now gcycle)) stock length ⌝ }
+    ensures { λ r. ⌜ Decides (sideOf taker (now (tprefix .entry)) (now (tcycle .entry))) (sideOf giver (now (gprefix .entry)) (now (gcycle .entry))) stock r ⌝ }
+{
+    let n = jobs(tprefix.len(), gprefix.len(), taker, giver, length);
+    first_short(tprefix, tcycle, gprefix, gcycle, taker, giver, stock, n)
+}
+
+fn smaller(a: u64, b: u64) -> u64
+    ensures { λ r. ⌜ r ≡ min a b ⌝ }
+{
+    if a < b { a } else { b }
 }
