@@ -2,3 +2,4 @@ pub mod Fits
 pub mod Multiples
 pub mod Running
 pub mod Deciding
+pub mod Weighing

@@ -28,6 +28,9 @@ joinedOf c p q pwindow cwindow =
 abbrev pub sideOf : Pace → List ℕ → List ℕ → Side
 sideOf p prefix cycle = record { period = p .period; offset = p .offset; window = p .window; prefix = prefix; cycle = cycle }
 
+abbrev pub joinedAt : Side → Side → ℕ → ℕ → Channel
+joinedAt producer consumer initial size = record { producer = producer; consumer = consumer; initial = initial; size = size }
+
 -- ---- the ranges of a well-formed graph
 
 pub record Timed (t : Task) (window : ℕ) : Type 0 where
@@ -58,6 +61,12 @@ pub record Limited (s : Side) : Type 0 where
   pub offset-most : s .offset ≤ 1_000_000
   pub prefix-most : length (s .prefix) ≤ 16
   pub cycle-most : length (s .cycle) ≤ 32
+
+pub record Weighable (ch : Channel) : Type 0 where
+  pub producer : Limited (ch .producer)
+  pub consumer : Limited (ch .consumer)
+  pub initial-most : ch .initial ≤ 1_000_000
+  pub size-most : ch .size ≤ 1_000_000
 
 -- ---- what the functions hand back
 

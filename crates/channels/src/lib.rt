@@ -3,8 +3,12 @@ ghost use mathlib.Core.Path.{_≡_};
 ghost use Prim.Native.Nat.{ℕ, _+_, _*_, _-_, _≤_, _<_, min};
 ghost use lib.Dec.{eqb};
 ghost use lib.ListN.{length};
-ghost use Rattle.channels.specs.Sides.{sideOf, turnOf, Turned};
+ghost use Rattle.channels.specs.Sides.{joinedOf, sideOf, joinedAt, Ready, Weighable, turnOf, Turned};
 ghost use Rattle.channels.specs.Answers.{Spans, Measured, Searchable, Finds, Countable, jobsOf, Repeats, Decides};
+ghost use Rattle.channel.specs.Judge.{Means};
+use channel::Verdict;
+use graph::Channel;
+use graph::Task;
 use graph::list_at;
 use graph::next_place;
 
@@ -162,4 +166,62 @@ fn smaller(a: u64, b: u64) -> u64
     ensures { λ r. ⌜ r ≡ min a b ⌝ }
 {
     if a < b { a } else { b }
+}
+
+// The first of the tests 13 to 17 that a channel fails, by its lent lists.
+fn weigh<'a>(
+    pprefix: &'a [u16],
+    pcycle: &'a [u16],
+    cprefix: &'a [u16],
+    ccycle: &'a [u16],
+    producer: Pace,
+    consumer: Pace,
+    initial: u64,
+    size: u64,
+) -> Verdict
+    requires { ⌜ Weighable (joinedAt (sideOf producer (now pprefix) (now pcycle)) (sideOf consumer (now cprefix) (now ccycle)) initial size) ⌝ }
+    ensures { λ r. ⌜ Means (joinedAt (sideOf producer (now (pprefix .entry)) (now (pcycle .entry))) (sideOf consumer (now (cprefix .entry)) (now (ccycle .entry))) initial size) r ⌝ }
+{
+    if size < initial {
+        return Verdict::InitialAboveSize;
+    }
+    let pperiod = producer.period;
+    let cperiod = consumer.period;
+    if balanced(pcycle, ccycle, pperiod, cperiod) {
+        let pspan = pperiod * pcycle.len() as u64;
+        let cspan = cperiod * ccycle.len() as u64;
+        let window = measure(pspan, cspan, smaller(pperiod, cperiod));
+        let Window::Length { ticks } = window else {
+            return Verdict::WindowTooLong;
+        };
+        let under = decide(
+            cprefix,
+            ccycle,
+            pprefix,
+            pcycle,
+            consumer,
+            producer,
+            initial,
+            ticks,
+        );
+        if let Search::Short { job } = under {
+            return Verdict::Underflow { job: job };
+        }
+        let over = decide(
+            pprefix,
+            pcycle,
+            cprefix,
+            ccycle,
+            producer,
+            consumer,
+            size - initial,
+            ticks,
+        );
+        if let Search::Short { job } = over {
+            return Verdict::Overflow { job: job };
+        }
+        Verdict::Fine
+    } else {
+        Verdict::Unbalanced
+    }
 }

@@ -1,0 +1,120 @@
+-- The tests of one channel, put together. Assumes nothing.
+use mathlib.Core.Path.{_≡_, sym, subst, _∙_}
+use mathlib.Core.Bool.{Bool, true, false}
+use Prim.Native.Nat.{ℕ, _*_, _-_, _/_, min, _≤_, _<_, _∣_}
+use native.Mathlib.Nat.{mul-pos, mul-le-mul, mul-le-mul-left, le-min, min-le-left, min-le-right, div-lt-iff-lt-mul}
+use native.Mathlib.Omega.{arith}
+use borrow.Author.Tests.{eqb-true, eqb-false}
+use lib.Dec.{eqb}
+use lib.ListN.{length}
+use Rattle.channel.specs.declared.Verdict as verdict
+use Rattle.channel.specs.Side.{Side, turn, span, Short}
+use Rattle.channel.specs.Channel.{Channel, Balanced, Underflows, Overflows}
+use Rattle.channel.specs.Judge.{IsLcm, lcm, TooLong, Means}
+use Rattle.channel.proofs.Least.{lcm-is}
+use Rattle.channel.proofs.Parts.{short-over, over-short}
+use Rattle.channels.specs.declared.Window as window
+use Rattle.channels.specs.declared.Search as search
+use Rattle.channels.specs.Sides.{Limited, Weighable}
+use Rattle.channels.specs.Answers.{Spans, Measured, Repeats, Decides}
+
+pub span-most : (s : Side) → Limited s → span s ≤ 32_000_000
+span-most s ok = omega (arith, mul-le-mul {n₁ = s .period} {n₂ = 1_000_000} {m₂ = 32} (ok .period-most) (ok .cycle-most))
+
+span-some : (s : Side) → Limited s → 1 ≤ span s
+span-some s ok = mul-pos (omega arith) (ok .some-rate)
+
+-- a length in periods is at most as many in the smaller of two
+by-period : (L p least : ℕ) → 0 < least → least ≤ p → L / least ≤ 65536 → L / p ≤ 65536
+by-period L p least some h few =
+    let below : L < 65537 * p =
+    omega (arith, div-lt-iff-lt-mul {k = least} {x = L} {y = 65537} some .0 (omega arith), mul-le-mul-left 65537 h) in
+    omega (arith, div-lt-iff-lt-mul {k = p} {x = L} {y = 65537} (omega arith) .1 below)
+
+abbrev pub least-of : Channel → ℕ
+least-of ch = min (ch .producer .period) (ch .consumer .period)
+
+module _ (ch : Channel) (ok : Weighable ch) where
+  abbrev least : ℕ
+  least = least-of ch
+
+  some-least : 0 < least
+  some-least = le-min (omega arith) (omega arith)
+
+  pub spans : Spans (span (ch .producer)) (span (ch .consumer)) least
+  spans =
+      record {
+        some-a = span-some (ch .producer) (ok .producer);
+        some-b = span-some (ch .consumer) (ok .consumer);
+        some-least = some-least;
+        a-most = span-most (ch .producer) (ok .producer);
+        least-most = omega (arith, min-le-left (ch .producer .period) (ch .consumer .period), ok .producer .period-most);
+      }
+
+  L-is : IsLcm (span (ch .producer)) (span (ch .consumer)) (lcm (span (ch .producer)) (span (ch .consumer)))
+  L-is = lcm-is (span (ch .producer)) (span (ch .consumer)) (spans .some-a) (spans .some-b)
+
+  pub in-balance : (b : Bool) → b ≡ eqb (turn (ch .producer) * length (ch .consumer .cycle) * ch .consumer .period) (turn (ch .consumer) * length (ch .producer .cycle) * ch .producer .period)
+      → b ≡ true → Balanced (ch .producer) (ch .consumer)
+  in-balance b e t = eqb-true _ _ (sym e ∙ t)
+
+  pub off-balance : (b : Bool) → b ≡ eqb (turn (ch .producer) * length (ch .consumer .cycle) * ch .consumer .period) (turn (ch .consumer) * length (ch .producer .cycle) * ch .producer .period)
+      → b ≡ false → ¬ Balanced (ch .producer) (ch .consumer)
+  off-balance b e t = eqb-false _ _ (sym e ∙ t)
+
+  module _ (w : window.Window) (m : Measured (span (ch .producer)) (span (ch .consumer)) least w) where
+    pub too-long : w ≡ window.the-variants.TooLong → TooLong ch
+    too-long e = subst (λ v. Measured (span (ch .producer)) (span (ch .consumer)) least v) e m
+
+    module _ (ticks : ℕ) (e : w ≡ window.the-variants.Length ticks) where
+      is : (ticks ≡ lcm (span (ch .producer)) (span (ch .consumer))) × (lcm (span (ch .producer)) (span (ch .consumer)) / least ≤ 65536)
+      is = subst (λ v. Measured (span (ch .producer)) (span (ch .consumer)) least v) e m
+
+      pub not-long : ¬ TooLong ch
+      not-long h = omega (arith, is .1)
+
+      repeats : (t g : Side) → Limited t → Limited g → (stock : ℕ) → stock ≤ 1_000_000 → Balanced t g
+          → span t ∣ lcm (span (ch .producer)) (span (ch .consumer)) → span g ∣ lcm (span (ch .producer)) (span (ch .consumer)) → least ≤ t .period
+          → Repeats t g stock ticks
+      repeats t g tok gok stock s bal dt dg h =
+          rw (is .0)
+          record {
+            taker = tok;
+            giver = gok;
+            stock-most = s;
+            balanced = bal;
+            some = L-is .positive;
+            of-taker = dt;
+            of-giver = dg;
+            length-most = by-period (lcm (span (ch .producer)) (span (ch .consumer))) (t .period) least some-least h (is .1);
+          }
+
+      module _ (bal : Balanced (ch .producer) (ch .consumer)) where
+        pub under-asks : Repeats (ch .consumer) (ch .producer) (ch .initial) ticks
+        under-asks =
+            repeats (ch .consumer) (ch .producer) (ok .consumer) (ok .producer) (ch .initial) (ok .initial-most) (sym bal) (L-is .right) (L-is .left) (min-le-right (ch .producer .period) (ch .consumer .period))
+
+        pub over-asks : Repeats (ch .producer) (ch .consumer) (ch .size - ch .initial) ticks
+        over-asks =
+            repeats (ch .producer) (ch .consumer) (ok .producer) (ok .consumer) (ch .size - ch .initial) (omega (arith, ok .size-most)) bal (L-is .left) (L-is .right) (min-le-left (ch .producer .period) (ch .consumer .period))
+
+        module _ (fits : ch .initial ≤ ch .size) (u : search.Search) (du : Decides (ch .consumer) (ch .producer) (ch .initial) u) where
+          pub underflows : (k : ℕ) → u ≡ search.the-variants.Short k → Means ch (verdict.the-variants.Underflow k)
+          underflows k eu = (fits, bal, not-long, subst (λ v. Decides (ch .consumer) (ch .producer) (ch .initial) v) eu du)
+
+          module _ (eu : u ≡ search.the-variants.Nothing) where
+            never : (k : ℕ) → ¬ Underflows ch k
+            never = subst (λ v. Decides (ch .consumer) (ch .producer) (ch .initial) v) eu du
+
+            module _ (o : search.Search) (ov : Decides (ch .producer) (ch .consumer) (ch .size - ch .initial) o) where
+              pub overflows : (j : ℕ) → o ≡ search.the-variants.Short j → Means ch (verdict.the-variants.Overflow j)
+              overflows j eo =
+                  let f = subst (λ v. Decides (ch .producer) (ch .consumer) (ch .size - ch .initial) v) eo ov in
+                  (fits, bal, not-long, never, (short-over ch j (f .0), λ i l v. f .1 i l (over-short ch fits i v)))
+
+              pub fine : o ≡ search.the-variants.Nothing → Means ch verdict.the-variants.Fine
+              fine eo =
+                  let f = subst (λ v. Decides (ch .producer) (ch .consumer) (ch .size - ch .initial) v) eo ov in (
+                    not-long,
+                    record { fits = fits; no-underflow = never; no-overflow = λ j v. f j (over-short ch fits j v) },
+                  )
