@@ -6,7 +6,10 @@ use native.Mathlib.Nat.{mul-pos, mul-le-mul, mul-le-mul-left, le-min, min-le-lef
 use native.Mathlib.Omega.{arith}
 use borrow.Author.Tests.{eqb-true, eqb-false}
 use lib.Dec.{eqb}
-use lib.ListN.{length}
+use lib.ListN.{length, take}
+use lib.Seq.{length-take-le}
+use Rattle.graph.specs.declared.Task.{Task}
+use Rattle.graph.specs.Memory.{MemoryLink, MemoryRates, view-rates}
 use Rattle.channel.specs.declared.Verdict as verdict
 use Rattle.channel.specs.Side.{Side, turn, span, Short}
 use Rattle.channel.specs.Channel.{Channel, Balanced, Underflows, Overflows}
@@ -15,7 +18,7 @@ use Rattle.channel.proofs.Least.{lcm-is}
 use Rattle.channel.proofs.Parts.{short-over, over-short}
 use Rattle.channels.specs.declared.Window as window
 use Rattle.channels.specs.declared.Search as search
-use Rattle.channels.specs.Sides.{Limited, Weighable}
+use Rattle.channels.specs.Sides.{side, joinedOf, Timed, Rated, Ready, Limited, Weighable}
 use Rattle.channels.specs.Answers.{Spans, Measured, Repeats, Decides}
 
 pub span-most : (s : Side) → Limited s → span s ≤ 32_000_000
@@ -118,3 +121,35 @@ module _ (ch : Channel) (ok : Weighable ch) where
                     not-long,
                     record { fits = fits; no-underflow = never; no-overflow = λ j v. f j (over-short ch fits j v) },
                   )
+
+-- ---- a channel in memory
+
+limited : (t : Task) (w : ℕ) (r : MemoryRates) → length (r .prefix) ≡ 16 → length (r .cycle) ≡ 32 → Timed t w → Rated r → Limited (side t w (view-rates r))
+limited t w r lp lc tok rok =
+    let np : length (take (r .plen) (r .prefix)) ≡ r .plen = length-take-le (r .plen) (r .prefix) (omega (arith, rok .prefix-most)) in
+    let nc : length (take (r .clen) (r .cycle)) ≡ r .clen = length-take-le (r .clen) (r .cycle) (omega (arith, rok .cycle-most)) in
+    record {
+      some-tick = tok .some-tick;
+      fits = tok .fits;
+      some-rate = omega (arith, rok .some-rate);
+      period-most = tok .period-most;
+      offset-most = tok .offset-most;
+      prefix-most = omega (arith, rok .prefix-most);
+      cycle-most = omega (arith, rok .cycle-most);
+    }
+
+-- the arrays are as long as their types say
+pub record Whole (r : MemoryRates) : Type 0 where
+  pub prefix : length (r .prefix) ≡ 16
+  pub cycle : length (r .cycle) ≡ 32
+
+pub weighable :
+    (c : MemoryLink) (p q : Task) (pwindow cwindow : ℕ) → Ready c p q pwindow cwindow → Whole (c .production) → Whole (c .consumption)
+    → Weighable (joinedOf c p q pwindow cwindow)
+weighable c p q pwindow cwindow ok wp wc =
+    record {
+      producer = limited p pwindow (c .production) (wp .prefix) (wp .cycle) (ok .producer) (ok .production);
+      consumer = limited q cwindow (c .consumption) (wc .prefix) (wc .cycle) (ok .consumer) (ok .consumption);
+      initial-most = ok .initial-most;
+      size-most = ok .size-most;
+    }

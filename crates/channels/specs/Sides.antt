@@ -24,6 +24,9 @@ joinedOf c p q pwindow cwindow =
       size = c .size;
     }
 
+abbrev pub paceOf : Task → ℕ → Pace
+paceOf t window = record { period = t .period; offset = t .offset; window = window }
+
 -- the same of a pace and two lent lists
 abbrev pub sideOf : Pace → List ℕ → List ℕ → Side
 sideOf p prefix cycle = record { period = p .period; offset = p .offset; window = p .window; prefix = prefix; cycle = cycle }

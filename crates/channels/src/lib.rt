@@ -3,7 +3,7 @@ ghost use mathlib.Core.Path.{_≡_};
 ghost use Prim.Native.Nat.{ℕ, _+_, _*_, _-_, _≤_, _<_, min};
 ghost use lib.Dec.{eqb};
 ghost use lib.ListN.{length};
-ghost use Rattle.channels.specs.Sides.{joinedOf, sideOf, joinedAt, Ready, Weighable, turnOf, Turned};
+ghost use Rattle.channels.specs.Sides.{joinedOf, paceOf, sideOf, joinedAt, Ready, Weighable, turnOf, Turned};
 ghost use Rattle.channels.specs.Answers.{Spans, Measured, Searchable, Finds, Countable, jobsOf, Repeats, Decides};
 ghost use Rattle.channel.specs.Judge.{Means};
 use channel::Verdict;
@@ -29,6 +29,17 @@ pub enum Window {
 pub enum Search {
     Short { job: u64 },
     Nothing,
+}
+
+// When the jobs of a task are released, with windows of the given length.
+fn pace_of(task: Task, window: u32) -> Pace
+    ensures { λ r. ⌜ r ≡ paceOf task window ⌝ }
+{
+    Pace {
+        period: task.period as u64,
+        offset: task.offset as u64,
+        window: window as u64,
+    }
 }
 
 fn wide(tokens: u16) -> u64
@@ -224,4 +235,41 @@ fn weigh<'a>(
     } else {
         Verdict::Unbalanced
     }
+}
+
+// The first of the tests 13 to 17 that a channel fails, or none; the windows' lengths are given.
+pub fn judge(
+    channel: Channel,
+    producer: Task,
+    consumer: Task,
+    pwindow: u32,
+    cwindow: u32,
+) -> Verdict
+    requires { ⌜ Ready channel producer consumer pwindow cwindow ⌝ }
+    ensures { λ r. ⌜ Means (joinedOf channel producer consumer pwindow cwindow) r ⌝ }
+{
+    let production = channel.production;
+    let pprefix = production.prefix;
+    let pcycle = production.cycle;
+    let plen = production.plen;
+    let pturn = production.clen;
+    let consumption = channel.consumption;
+    let cprefix = consumption.prefix;
+    let ccycle = consumption.cycle;
+    let clen = consumption.plen;
+    let cturn = consumption.clen;
+    let puts = pace_of(producer, pwindow);
+    let takes = pace_of(consumer, cwindow);
+    let initial = channel.initial;
+    let size = channel.size;
+    weigh(
+        &pprefix[..plen],
+        &pcycle[..pturn],
+        &cprefix[..clen],
+        &ccycle[..cturn],
+        puts,
+        takes,
+        initial as u64,
+        size as u64,
+    )
 }
