@@ -3,10 +3,11 @@ use mathlib.Core.Path.{_≡_}
 use mathlib.Core.List.{List}
 use mathlib.Core.Option.{Option, none, some}
 use Prim.Native.Nat.{ℕ, _<_}
+use lib.ListN.{getD}
 use Rattle.reply.specs.declared.Reply.{Reply}
-use Rattle.graph.specs.declared.Task.{Task}
-use Rattle.graph.specs.declared.Relation.{Relation}
 use Rattle.graph.specs.Model.{Graph, count}
+use Rattle.machine.specs.Machine.{IsResponse}
+use Rattle.rules.specs.Terms.{machine}
 use Rattle.rules.specs.Stages.{Earliest, Upto}
 use Rattle.checker.specs.declared.Outcome.{Outcome}
 use Rattle.checker.specs.declared.Outcome.the-variants.{Passed, Refused}
@@ -16,6 +17,11 @@ abbrev pub refusal : Outcome → Option Reply
 refusal Passed = none
 refusal (Refused reply) = some reply
 
--- Of every graph with these tasks: of the tests before stage n, this is the earliest refusal.
-pub record Tests (n room : ℕ) (ts : List Task) (r : Outcome) : Type 0 where
-  pub earliest : (g : Graph) → g .tasks ≡ ts → Earliest g room (Upto n) (refusal r)
+-- Of every graph that is P: where the tests before stage n find nothing, this is the earliest refusal before stage m.
+pub record Behind (n m room : ℕ) (P : Graph → Type 0) (r : Outcome) : Type 0 where
+  pub so : (g : Graph) → P g → Earliest g room (Upto n) none → Earliest g room (Upto m) (refusal r)
+
+-- where nothing refuses, the list starts with the response times
+abbrev pub Times : Graph → List ℕ → Outcome → Type 0
+Times g l Passed = (i : ℕ) → i < count g → IsResponse (machine g) i (getD l i 0)
+Times g l (Refused reply) = Unit {0}

@@ -3,7 +3,9 @@ ghost use mathlib.Core.Path.{_≡_};
 ghost use mathlib.Core.List.{_++_};
 ghost use Prim.Native.Nat.{ℕ, _≤_};
 ghost use lib.ListN.{length, take, drop};
-ghost use Rattle.checker.specs.Outcome.{Tests, refusal};
+ghost use Rattle.graph.specs.Model.{Graph};
+ghost use Rattle.rules.specs.Given.{Of, Ranged};
+ghost use Rattle.checker.specs.Outcome.{refusal, Behind, Times};
 ghost use Rattle.rules.specs.Check as rules;
 use channel::Verdict;
 use graph::Task;
@@ -19,7 +21,7 @@ pub enum Outcome {
 // Tests 8 and 9: priorities, and the room in the report.
 fn task_tests(tasks: [Task; 32], n: usize, room: usize) -> Outcome
     requires { ⌜ n ≤ 32 ⌝ }
-    ensures { λ r. ⌜ Tests 10 room (take n tasks) r ⌝ }
+    ensures { λ r. ⌜ Behind 8 10 room (λ g. g .tasks ≡ take n tasks) r ⌝ }
 {
     match tasks::same_priority(tasks, n) {
         Found::At { index } => Outcome::Refused {
@@ -34,6 +36,44 @@ fn task_tests(tasks: [Task; 32], n: usize, room: usize) -> Outcome
                 Outcome::Passed
             }
         }
+    }
+}
+
+// What the tests of the times found, and the figures where they found nothing.
+struct Timing {
+    outcome: Outcome,
+    figures: [u32; 32],
+}
+
+// Tests 11 and 12: late tasks, and the load.
+fn time_tests(tasks: [Task; 32], n: usize, room: usize) -> Timing
+    requires { ⌜ n ≤ 32 ⌝ }
+    requires { ⌜ Ranged (take n tasks) ⌝ }
+    ensures { λ r. ⌜ Behind 11 13 room (λ g. g .tasks ≡ take n tasks) (r .outcome) ⌝ }
+    ensures { λ r. ⌜ Of (take n tasks) (λ g. Times g (r .figures) (r .outcome)) ⌝ }
+{
+    let responses = response::respond_all(tasks, n);
+    let figures = responses.figures;
+    let late = responses.late;
+    if let Found::At { index } = late {
+        return Timing {
+            outcome: Outcome::Refused {
+                reply: Reply::Late { task: index },
+            },
+            figures: figures,
+        };
+    }
+    if tasks::overloaded(tasks, n) {
+        return Timing {
+            outcome: Outcome::Refused {
+                reply: Reply::Overloaded,
+            },
+            figures: figures,
+        };
+    }
+    Timing {
+        outcome: Outcome::Passed,
+        figures: figures,
     }
 }
 
