@@ -4,7 +4,9 @@ ghost use Prim.Native.Nat.{ℕ, _+_, _≤_, _<_};
 ghost use lib.ListN.{length, take};
 ghost use Rattle.machine.specs.Machine.{above};
 ghost use Rattle.graph.specs.Model.{Graph, count, task};
-ghost use Rattle.rules.specs.Given.{Of, Ranged};
+ghost use Rattle.numbers.specs.Lists.{All};
+ghost use Rattle.format.specs.Ranges.{TaskRange};
+ghost use Rattle.rules.specs.Given.{Of};
 ghost use Rattle.rules.specs.Terms.{machine};
 ghost use Rattle.response.specs.Columns.{asked, hindrance, Cells, Searched};
 ghost use Rattle.response.specs.Response.{Responds, Judged};
@@ -41,7 +43,7 @@ fn interferes(other: Task, one: Task) -> bool
 // The columns of task i.
 fn gather(tasks: [Task; 32], n: usize, i: usize) -> Columns
     requires { ⌜ n ≤ 32 ⌝ }
-    requires { ⌜ Ranged (take n tasks) ⌝ }
+    requires { ⌜ All TaskRange (take n tasks) ⌝ }
     requires { ⌜ i < n ⌝ }
     ensures { λ r. ⌜ r .count ≤ 32 ⌝ }
     ensures { λ r. ⌜ Cells (r .costs) (r .periods) (r .count) ⌝ }
@@ -106,7 +108,7 @@ fn search(own: u32, limit: u32, costs: &[u32], periods: &[u32]) -> Response
 // The response of task i.
 pub fn respond(tasks: [Task; 32], n: usize, i: usize) -> Response
     requires { ⌜ n ≤ 32 ⌝ }
-    requires { ⌜ Ranged (take n tasks) ⌝ }
+    requires { ⌜ All TaskRange (take n tasks) ⌝ }
     requires { ⌜ i < n ⌝ }
     ensures { λ r. ⌜ Of (take n tasks) (λ g. Responds g i r) ⌝ }
 {
@@ -126,7 +128,7 @@ pub fn respond(tasks: [Task; 32], n: usize, i: usize) -> Response
 // Test 11: the response of every task, up to the first that is late.
 pub fn respond_all(tasks: [Task; 32], n: usize) -> Responses
     requires { ⌜ n ≤ 32 ⌝ }
-    requires { ⌜ Ranged (take n tasks) ⌝ }
+    requires { ⌜ All TaskRange (take n tasks) ⌝ }
     ensures { λ r. ⌜ Of (take n tasks) (λ g. Judged g n (r .figures) (r .late)) ⌝ }
 {
     let mut figures: [u32; 32] = [0; 32];

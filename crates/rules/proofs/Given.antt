@@ -5,9 +5,11 @@ use Prim.Native.Nat.{ℕ, _≤_, _<_}
 use native.Mathlib.Omega.{arith}
 use lib.ListN.{length, take, getD}
 use lib.Seq.{length-take-le, getD-take}
+use Rattle.numbers.specs.Lists.{All}
+use Rattle.numbers.proofs.Lists.{all-at}
 use Rattle.graph.specs.declared.Task.{Task}
+use Rattle.format.specs.Ranges.{TaskRange}
 use Rattle.graph.specs.Model.{Graph, no-task, count, task, task-of}
-use Rattle.rules.specs.Given.{Times, Ranged}
 
 module _ (ts : List Task) (n : ℕ) (g : Graph) (e : g .tasks ≡ take n ts) where
   pub task-is : (i : ℕ) → i < n → task g i ≡ task-of ts i
@@ -17,5 +19,5 @@ module _ (ts : List Task) (n : ℕ) (g : Graph) (e : g .tasks ≡ take n ts) whe
   pub count-is : n ≤ length ts → count g ≡ n
   count-is h = ap length e ∙ length-take-le n ts h
 
-pub times-at : (ts : List Task) (n : ℕ) → n ≤ length ts → Ranged (take n ts) → (i : ℕ) → i < n → Times (task-of ts i)
-times-at ts n h r i l = let e = getD-take n ts i no-task l in rw e at (r .each i (omega (arith, length-take-le n ts h)))
+pub times-at : (ts : List Task) (n : ℕ) → n ≤ length ts → All TaskRange (take n ts) → (i : ℕ) → i < n → TaskRange (task-of ts i)
+times-at ts n h r i l = let e = getD-take n ts i no-task l in rw e at (all-at TaskRange (take n ts) no-task r i (omega (arith, length-take-le n ts h)))

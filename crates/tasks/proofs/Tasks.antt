@@ -10,7 +10,7 @@ use Rattle.numbers.proofs.Sums.{sum-ext}
 use Rattle.graph.specs.declared.Task.{Task}
 use Rattle.graph.specs.Model.{Graph, task, task-of}
 use Rattle.rules.specs.Terms.{cost-of}
-use Rattle.rules.specs.Given.{Times}
+use Rattle.format.specs.Ranges.{TaskRange}
 use Rattle.rules.specs.Rules.{Repeats, load}
 use Rattle.rules.proofs.Given.{task-is, count-is}
 use Rattle.tasks.specs.Tasks.{Before, share}
@@ -31,6 +31,6 @@ module _ (ts : List Task) (n : ℕ) (g : Graph) (e : g .tasks ≡ take n ts) whe
       ap (sum (λ k. cost-of (task g k) * 1_000_000 / task g k .period)) (count-is ts n g e h)
       ∙ sum-ext (λ k. cost-of (task g k) * 1_000_000 / task g k .period) (λ k. share (task-of ts k)) n (λ k l. ap share (task-is ts n g e k l))
 
-pub share-most : (t : Task) → Times t → share t ≤ 1_000_000 * 1_000_000
+pub share-most : (t : Task) → TaskRange t → share t ≤ 1_000_000 * 1_000_000
 unfolding share
 share-most t h = le-trans (div-le-self (cost-of t * 1_000_000) (t .period)) (mul-le-mul {n₂ = 1_000_000} {m₂ = 1_000_000} (omega arith) (omega arith))

@@ -5,7 +5,9 @@ ghost use Prim.Native.Nat.{ℕ, _≤_, _<_};
 ghost use lib.Dec.{ltb};
 ghost use lib.ListN.{take};
 ghost use Rattle.reply.specs.Found.{Finds};
-ghost use Rattle.rules.specs.Given.{Of, Times, Ranged};
+ghost use Rattle.numbers.specs.Lists.{All};
+ghost use Rattle.format.specs.Ranges.{TaskRange};
+ghost use Rattle.rules.specs.Given.{Of};
 ghost use Rattle.rules.specs.Rules.{Repeats, load};
 ghost use Rattle.rules.specs.Terms.{cost-of};
 ghost use Rattle.tasks.specs.Tasks.{Before, share};
@@ -54,7 +56,7 @@ pub fn cost(task: Task) -> u32
 
 // The task's share of the load, in millionths, rounded down.
 fn share_of(task: Task) -> u64
-    requires { ⌜ Times task ⌝ }
+    requires { ⌜ TaskRange task ⌝ }
     ensures { λ r. ⌜ r ≡ share task ⌝ }
 {
     cost(task) as u64 * 1_000_000 / task.period as u64
@@ -63,7 +65,7 @@ fn share_of(task: Task) -> u64
 // Test 12: the shares add up to more than a million.
 pub fn overloaded(tasks: [Task; 32], n: usize) -> bool
     requires { ⌜ n ≤ 32 ⌝ }
-    requires { ⌜ Ranged (take n tasks) ⌝ }
+    requires { ⌜ All TaskRange (take n tasks) ⌝ }
     ensures { λ r. ⌜ Of (take n tasks) (λ g. r ≡ ltb 1_000_000 (load g)) ⌝ }
 {
     let mut total: u64 = 0;

@@ -8,7 +8,8 @@ use Rattle.numbers.specs.Numbers.{ceil}
 use Rattle.graph.specs.declared.Task.{Task}
 use Rattle.graph.specs.Model.{Graph, count, task, task-of}
 use Rattle.rules.specs.Terms.{cost, cost-of, machine}
-use Rattle.rules.specs.Given.{Of, Times}
+use Rattle.rules.specs.Given.{Of}
+use Rattle.format.specs.Ranges.{TaskRange}
 use Rattle.rules.proofs.Given.{task-is, count-is, times-at}
 use Rattle.response.specs.Columns.{asked, hindrance, Cells}
 use Rattle.response.proofs.Places.{asked-none, asked-set, cells-set, hindrance-none, hindrance-more}
@@ -45,7 +46,7 @@ module _ (ts : List Task) (n i : ℕ) (mine : Task) (costs periods : List ℕ) (
         same = λ g e w. omega (arith, s .same g e w, hindrance-more g i w j false (sym f ∙ hinders g e));
       }
 
-  step-in : b ≡ true → Times (task-of ts j)
+  step-in : b ≡ true → TaskRange (task-of ts j)
       → State ts n i mine (set costs filled (cost-of (task-of ts j))) (set periods filled (task-of ts j .period)) (filled + 1) (j + 1)
   step-in t ranged =
       let h : filled < length costs = omega (arith, s .few, s .costs-length) in
@@ -56,7 +57,7 @@ module _ (ts : List Task) (n i : ℕ) (mine : Task) (costs periods : List ℕ) (
         costs-length = length-set costs filled _ ∙ s .costs-length;
         periods-length = length-set periods filled _ ∙ s .periods-length;
         this = s .this;
-        cells = cells-set costs periods filled _ _ h k (s .cells) (record { cost-most = omega (arith, ranged); some-period = ranged .some-period; period-most = ranged .period-most });
+        cells = cells-set costs periods filled _ _ h k (s .cells) (record { cost-most = omega (arith, ranged); some-period = ranged .some-period; period-most = ranged .period });
         same = λ g e w.
             let c : cost g j * ceil w (task g j .period) ≡ cost-of (task-of ts j) * ceil w (task-of ts j .period) =
             ap (λ (x : Task). cost-of x * ceil w (x .period)) (task-is ts n g e j next) in

@@ -4,7 +4,7 @@ use lib.Seq.{length-take-le}
 use Rattle.graph.specs.declared.Task.{Task}
 use Rattle.graph.specs.Model.{task, task-of}
 use Rattle.rules.specs.Terms.{cost-of}
-use Rattle.rules.specs.Given.{Times}
+use Rattle.format.specs.Ranges.{TaskRange}
 use Rattle.rules.proofs.Given.{task-is, times-at}
 use Rattle.response.specs.Columns.{asked}
 use Rattle.response.proofs.Places.{asked-take, cells-take, demand-is, responds}
@@ -57,7 +57,7 @@ search-requires c κs =
     let h = c .before .before .before .before .before .before in
     let s = h .before in
     let n : length (s .args .t1) ≡ 32 = search needs in
-    let t : Times (task-of (s .args .t1) (s .args .i)) = times-at (s .args .t1) (s .args .n) (omega arith) (s .pre .1 .0) (s .args .i) (s .pre .1 .1) in (
+    let t : TaskRange (task-of (s .args .t1) (s .args .i)) = times-at (s .args .t1) (s .args .n) (omega arith) (s .pre .1 .0) (s .args .i) (s .pre .1 .1) in (
       (omega (arith, c .before .before .cost .ensures, t), (omega (arith, t), omega (arith, costs-lent h, h .gather .ensures .0))),
       (
         periods-lent h ∙ sym (costs-lent h),
