@@ -1,3 +1,5 @@
 pub mod Put
 pub mod Rows
+pub mod Links
 pub mod Signed
+pub mod Whole

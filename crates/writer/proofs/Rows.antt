@@ -4,7 +4,7 @@ use mathlib.Core.List.{List, [], _∷_, _++_, map}
 use Prim.Native.Nat.{ℕ, suc, _+_, _*_, _≤_, _<_}
 use native.Mathlib.Numerals.{add-one}
 use native.Mathlib.Omega.{arith}
-use lib.ListN.{length, getD, take}
+use lib.ListN.{length, getD, take, length-append}
 use lib.Seq.{take-suc, take-length}
 use Rattle.format.specs.Record.{Record, encode, encodes}
 use Rattle.format.proofs.Records.{encodes-append, encodes-one}
@@ -56,3 +56,9 @@ module _ {A : Type 0} (f : A → Record) (w : ℕ) (xs : List A) (n : ℕ) (out 
 pub row-all : {A : Type 0} (f : A → Record) (w : ℕ) (xs : List A) (out : List ℕ) (at : ℕ) {after : List ℕ} {next i : ℕ}
     → Row f w xs (length xs) out at after next i → length xs ≤ i → Puts out at (encodes (map f xs)) after next
 row-all f w xs out at r h = puts-same (ap (λ l. encodes (map f l)) (take-length xs)) (row-end f w xs (length xs) out at r h)
+
+-- the bytes of such records
+pub row-bytes : {A : Type 0} (f : A → Record) (w : ℕ) → ((x : A) → length (encode (f x)) ≡ w) → (xs : List A) → length (encodes (map f xs)) ≡ length xs * w
+unfolding encodes
+row-bytes f w width [] = omega arith
+row-bytes f w width (x ∷ xs) = omega (arith, width x, length-append (encode (f x)) (encodes (map f xs)), row-bytes f w width xs)

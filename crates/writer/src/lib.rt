@@ -3,11 +3,16 @@ ghost use mathlib.Core.Path.{_≡_};
 ghost use mathlib.Core.List.{map};
 ghost use Prim.Native.Nat.{ℕ, _+_, _*_, _≤_};
 ghost use lib.ListN.{length, take};
+ghost use Rattle.numbers.specs.Lists.{All};
+ghost use Rattle.graph.specs.Memory.{view, view-rates, view-link};
 ghost use Rattle.format.specs.Record.{be, wrap, encode, encodes, task, channel, rate, relation};
-ghost use Rattle.writer.specs.Writing.{Puts, headOf};
+ghost use Rattle.format.specs.Writer.{rates-of, bytes};
+ghost use Rattle.formed.specs.Formed.{WellFormed};
+ghost use Rattle.writer.specs.Writing.{Puts, headOf, sideRecords, ratesOf, SideFits, LinkFits};
 use graph::Channel;
 use graph::Graph;
 use graph::Relation;
+use graph::Side;
 use graph::Task;
 
 // One byte at a place of the output; the answer is the next place.
@@ -172,4 +177,84 @@ fn put_rates(list: &[u16], channel: u8, side: u8, part: u8, at: usize, out: &mut
         i += 1;
     }
     next
+}
+
+// The records of one side of a channel: its prefix and then its cycle.
+fn put_side(s: Side, channel: u8, side: u8, at: usize, out: &mut [u8]) -> usize
+    requires { ⌜ SideFits s × (at + (s .plen + s .clen) * 6 ≤ length (now out)) ⌝ }
+    ensures { λ r. ⌜ Puts (now (out .entry)) at (encodes (sideRecords channel side (view-rates s))) (now (out .exit)) r ⌝ }
+{
+    let prefix = s.prefix;
+    let cycle = s.cycle;
+    let p = s.plen;
+    let c = s.clen;
+    let middle = put_rates(&prefix[..p], channel, side, 0, at, out);
+    put_rates(&cycle[..c], channel, side, 1, middle, out)
+}
+
+// The records of the rates of a channel: production and then consumption.
+fn put_link(c: Channel, i: u8, at: usize, out: &mut [u8]) -> usize
+    requires { ⌜ LinkFits c × (at + length (rates-of i (view-link c)) * 6 ≤ length (now out)) ⌝ }
+    ensures { λ r. ⌜ Puts (now (out .entry)) at (encodes (rates-of i (view-link c))) (now (out .exit)) r ⌝ }
+{
+    let production = c.production;
+    let consumption = c.consumption;
+    let middle = put_side(production, i, 0, at, out);
+    put_side(consumption, i, 1, middle, out)
+}
+
+// The records of the rates of the first n channels.
+fn put_links(channels: [Channel; Graph::CHANNELS], n: usize, at: usize, out: &mut [u8]) -> usize
+    requires { ⌜ (n ≤ 64) × (All LinkFits (take n channels) × (at + length (ratesOf n channels) * 6 ≤ length (now out))) ⌝ }
+    ensures { λ r. ⌜ Puts (now (out .entry)) at (encodes (ratesOf n channels)) (now (out .exit)) r ⌝ }
+{
+    let mut next = at;
+    let mut i: usize = 0;
+    while i < n {
+        let c = channels[i];
+        next = put_link(c, i as u8, next, out);
+        i += 1;
+    }
+    next
+}
+
+// How many entries the rates of the first n channels have.
+fn entries_of(channels: [Channel; Graph::CHANNELS], n: usize) -> usize
+    requires { ⌜ (n ≤ 64) × All LinkFits (take n channels) ⌝ }
+    ensures { λ r. ⌜ r ≡ length (ratesOf n channels) ⌝ }
+{
+    let mut total: usize = 0;
+    let mut i: usize = 0;
+    while i < n {
+        let c = channels[i];
+        let p = c.production;
+        let q = c.consumption;
+        total = total + (p.plen + p.clen) + (q.plen + q.clen);
+        i += 1;
+    }
+    total
+}
+
+// The length of a graph's file.
+fn length_of(g: Graph) -> usize
+    requires { ⌜ WellFormed g ⌝ }
+    ensures { λ r. ⌜ r ≡ length (bytes (view g)) ⌝ }
+{
+    let channels = g.channels;
+    let entries = entries_of(channels, g.nchannels);
+    g.ntasks * 18 + g.nchannels * 11 + entries * 6 + g.nrelations * 15
+}
+
+// The file of a graph at the front of the output.
+fn put_graph(g: Graph, out: &mut [u8]) -> usize
+    requires { ⌜ WellFormed g × (length (bytes (view g)) ≤ length (now out)) ⌝ }
+    ensures { λ r. ⌜ Puts (now (out .entry)) 0 (bytes (view g)) (now (out .exit)) r ⌝ }
+{
+    let tasks = g.tasks;
+    let channels = g.channels;
+    let relations = g.relations;
+    let a = put_tasks(tasks, g.ntasks, 0, out);
+    let b = put_channels(channels, g.nchannels, a, out);
+    let c = put_links(channels, g.nchannels, b, out);
+    put_relations(relations, g.nrelations, c, out)
 }
