@@ -51,6 +51,7 @@ module _ (ch : Channel) (ok : Weighable ch) where
         some-b = span-some (ch .consumer) (ok .consumer);
         some-least = some-least;
         a-most = span-most (ch .producer) (ok .producer);
+        b-most = span-most (ch .consumer) (ok .consumer);
         least-most = omega (arith, min-le-left (ch .producer .period) (ch .consumer .period), ok .producer .period-most);
       }
 

@@ -16,6 +16,7 @@ pub record Spans (a b least : ℕ) : Type 0 where
   pub some-b : 1 ≤ b
   pub some-least : 1 ≤ least
   pub a-most : a ≤ 32_000_000
+  pub b-most : b ≤ 32_000_000
   pub least-most : least ≤ 1_000_000
 
 -- the least common multiple of the spans, if it is not too long

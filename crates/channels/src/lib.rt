@@ -1,6 +1,6 @@
 // The judgement of one channel: initial fill, balance, window, underflow, overflow.
 ghost use mathlib.Core.Path.{_≡_};
-ghost use Prim.Native.Nat.{ℕ, _+_, _*_, _-_, _≤_, _<_, min};
+ghost use Prim.Native.Nat.{ℕ, _+_, _*_, _-_, _%_, _≤_, _<_, min};
 ghost use lib.Dec.{eqb};
 ghost use lib.ListN.{length};
 ghost use Rattle.channels.specs.Sides.{joinedOf, paceOf, sideOf, joinedAt, Ready, Weighable, turnOf, Turned};
@@ -73,18 +73,29 @@ fn balanced<'a>(production: &'a [u16], consumption: &'a [u16], pperiod: u64, cpe
     put == taken
 }
 
-// The least common multiple of the spans a and b: the first multiple of a that b divides, given up once that divided by the smaller period is above 65,536.
+// x modulo b, where x is less than two times b.
+fn around(x: u64, b: u64) -> u64
+    requires { ⌜ x < b + b ⌝ }
+    ensures { λ r. ⌜ r ≡ x % b ⌝ }
+{
+    if x < b { x } else { x - b }
+}
+
+// The least common multiple of the spans a and b: the first multiple of a that b divides, given up once that divided by the smaller period is above 65,536. What is left of the multiple modulo b is kept running.
 fn measure(a: u64, b: u64, least: u64) -> Window
     requires { ⌜ Spans a b least ⌝ }
     ensures { λ r. ⌜ Measured a b least r ⌝ }
 {
     let limit = 65537 * least;
+    let step = a % b;
     let mut ticks = a;
+    let mut rest = step;
     while ticks < limit {
-        if ticks % b == 0 {
+        if rest == 0 {
             return Window::Length { ticks: ticks };
         }
         ticks += a;
+        rest = around(rest + step, b);
     }
     Window::TooLong
 }
