@@ -4,7 +4,9 @@ ghost use mathlib.Core.List.{_++_};
 ghost use Prim.Native.Nat.{ℕ, _≤_};
 ghost use lib.ListN.{length, take, drop};
 ghost use Rattle.graph.specs.Model.{Graph};
-ghost use Rattle.rules.specs.Given.{Of, Ranged};
+ghost use Rattle.numbers.specs.Lists.{All};
+ghost use Rattle.format.specs.Ranges.{TaskRange};
+ghost use Rattle.rules.specs.Given.{Of};
 ghost use Rattle.checker.specs.Outcome.{refusal, Behind, Times};
 ghost use Rattle.rules.specs.Check as rules;
 use channel::Verdict;
@@ -48,7 +50,7 @@ struct Timing {
 // Tests 11 and 12: late tasks, and the load.
 fn time_tests(tasks: [Task; 32], n: usize, room: usize) -> Timing
     requires { ⌜ n ≤ 32 ⌝ }
-    requires { ⌜ Ranged (take n tasks) ⌝ }
+    requires { ⌜ All TaskRange (take n tasks) ⌝ }
     ensures { λ r. ⌜ Behind 11 13 room (λ g. g .tasks ≡ take n tasks) (r .outcome) ⌝ }
     ensures { λ r. ⌜ Of (take n tasks) (λ g. Times g (r .figures) (r .outcome)) ⌝ }
 {
