@@ -3,3 +3,4 @@ pub mod Rows
 pub mod Links
 pub mod Signed
 pub mod Whole
+pub mod Writing

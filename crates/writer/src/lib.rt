@@ -8,12 +8,14 @@ ghost use Rattle.graph.specs.Memory.{view, view-rates, view-link};
 ghost use Rattle.format.specs.Record.{be, wrap, encode, encodes, task, channel, rate, relation};
 ghost use Rattle.format.specs.Writer.{rates-of, bytes};
 ghost use Rattle.formed.specs.Formed.{WellFormed};
-ghost use Rattle.writer.specs.Writing.{Puts, headOf, sideRecords, ratesOf, SideFits, LinkFits};
+ghost use Rattle.writer.specs.Writing.{Writes, Puts, headOf, sideRecords, ratesOf, SideFits, LinkFits};
+use formed::formed;
 use graph::Channel;
 use graph::Graph;
 use graph::Relation;
 use graph::Side;
 use graph::Task;
+use reply::Reply;
 
 // One byte at a place of the output; the answer is the next place.
 fn put_byte(x: u8, at: usize, out: &mut [u8]) -> usize
@@ -257,4 +259,20 @@ fn put_graph(g: Graph, out: &mut [u8]) -> usize
     let b = put_channels(channels, g.nchannels, a, out);
     let c = put_links(channels, g.nchannels, b, out);
     put_relations(relations, g.nrelations, c, out)
+}
+
+// Writes the graph's file into the first bytes of the output. Nothing is written where the graph has no file or the output is shorter than it.
+pub fn write(graph: Graph, out: &mut [u8]) -> Reply
+    ensures { λ r. ⌜ Writes graph (now (out .entry)) r (now (out .exit)) ⌝ }
+{
+    if !formed(graph) {
+        return Reply::NoFile;
+    }
+    let needed = length_of(graph);
+    if out.len() < needed {
+        return Reply::ShortOutput { needed: needed };
+    }
+    put_graph(graph, out);
+    let tasks = graph.ntasks;
+    Reply::Accepted { tasks: tasks }
 }
