@@ -92,9 +92,14 @@ fn short_of_room(rng: &mut Rng, sketch: &mut Sketch) {
     }
 }
 
-/// An index of a list, if it has entries.
+/// An index of a list, if it has entries; often the last.
 fn any(rng: &mut Rng, len: usize) -> Option<usize> {
-    (len > 0).then(|| rng.index(len))
+    let last = len.checked_sub(1)?;
+    Some(if rng.percent(15) {
+        last
+    } else {
+        rng.index(len)
+    })
 }
 
 /// The values at which some range or count ends, and their neighbours.

@@ -9,18 +9,20 @@ use plain::{Relation, Task};
 /// A sort's name, how many of ten thousand files are of it, and how one is made.
 pub type Sort = (&'static str, u64, fn(&mut Rng) -> Vec<u8>);
 
-pub const SORTS: [Sort; 14] = [
+pub const SORTS: [Sort; 16] = [
     ("valid", 3000, valid),
     ("large", 250, large),
     ("spoilt", 2500, spoilt),
     ("edge", 1500, edge),
     ("reordered", 600, reordered),
-    ("damaged", 600, damaged),
+    ("damaged", 500, damaged),
     ("truncated", 400, truncated),
     ("counts", 150, counts),
     ("loose", 500, loose),
     ("random", 200, random),
     ("window", 200, window),
+    ("wrapped", 100, wrapped),
+    ("full", 10, full),
     ("far", 15, far),
     ("slow", 15, slow),
     ("long", 70, long),
@@ -61,17 +63,21 @@ fn valid(rng: &mut Rng) -> Vec<u8> {
     record::file(&sketch(rng).records())
 }
 
-/// Many records; most accepted.
+/// Many records; half of them harmed, most others accepted.
 fn large(rng: &mut Rng) -> Vec<u8> {
     let shape = Shape {
-        tasks: rng.within(8, 32) as usize,
-        links: rng.within(8, 64) as usize,
-        relations: rng.within(0, 64) as usize,
+        tasks: rng.pick(&[8, 20, 31, 32]),
+        links: rng.pick(&[8, 30, 63, 64]),
+        relations: rng.pick(&[0, 20, 63, 64]),
         prefix: 16,
         cycle: rng.pick(&[4, 32]),
         base: rng.within(70, 300),
     };
-    record::file(&Sketch::new(rng, &shape).records())
+    let mut sketch = Sketch::new(rng, &shape);
+    if rng.percent(50) {
+        damage::spoil(rng, &mut sketch);
+    }
+    record::file(&sketch.records())
 }
 
 /// One rule just broken.
@@ -153,15 +159,10 @@ fn idle(rng: &mut Rng, lens: &[usize]) -> Link {
 
 /// So many tasks, all alike but for their priorities.
 fn even(count: usize) -> Sketch {
-    let task = |place: usize| Task {
-        period: 64,
-        offset: 0,
-        deadline: 64,
-        worst: 1,
-        priority: 1 + place as u8,
-    };
     Sketch {
-        tasks: (0..count).map(task).collect(),
+        tasks: (0..count)
+            .map(|place| task(64, 64, 1, 1 + place as u64))
+            .collect(),
         ..Sketch::default()
     }
 }
@@ -244,10 +245,67 @@ fn window(rng: &mut Rng) -> Vec<u8> {
     record::file(&sketch.records())
 }
 
+/// Balance or a relation that holds for the lowest 32 bits of the products alone.
+fn wrapped(rng: &mut Rng) -> Vec<u8> {
+    let half = 1 << 16;
+    let offset = rng.below(2) * half;
+    let mut sketch = pair(rng, [(half, 0), (half, offset)]);
+    let few = rng.within(1, 20) as u32;
+    let near = rng.pick(&[0, 0, 1]);
+    let (d, phi) = match rng.below(3) {
+        0 => (few + half as u32, 0),
+        1 => (few, half as i32),
+        _ => (few, few as i32 * (offset / half) as i32),
+    };
+    sketch.relations.push(Relation {
+        p: 0,
+        q: 1,
+        n: few,
+        phi: phi + near,
+        d,
+    });
+    if rng.percent(50) {
+        let cycle = vec![1 << 15; 2 * rng.within(1, 8) as usize];
+        let mut link = idle(rng, &[2, 4]);
+        (link.producer, link.consumer) = (0, 1);
+        link.sides[rng.index(2)].cycle = cycle;
+        sketch.links.push(link);
+        sketch.relations.clear();
+    }
+    record::file(&sketch.records())
+}
+
+/// As many tokens as one channel can move: the totals pass 32 bits.
+fn full(rng: &mut Rng) -> Vec<u8> {
+    let mut sketch = pair(rng, [(65_534, 0), (65_535, 0)]);
+    let side = |tokens| Lists {
+        prefix: vec![65_535; 16],
+        cycle: vec![tokens],
+    };
+    let mut link = Link {
+        producer: 0,
+        consumer: 1,
+        initial: 0,
+        size: 0,
+        sides: [side(65_534), side(65_535)],
+    };
+    if rng.percent(50) {
+        (link.producer, link.consumer) = (1, 0);
+        link.sides.swap(0, 1);
+    }
+    sketch.links.push(link);
+    sketch.fit(0, 0);
+    if rng.percent(50) {
+        damage::spoil(rng, &mut sketch);
+    }
+    record::file(&sketch.records())
+}
+
 /// One channel with a start so late that the broken job, if any, is far along.
 fn far(rng: &mut Rng) -> Vec<u8> {
     let short = rng.within(2, 9);
-    let long = short * rng.within(1, 2000);
+    let most = rng.pick(&[3, 2000]);
+    let long = short * rng.within(1, most);
     let mut offsets = [rng.within(300_000, 1_000_000), rng.below(1000)];
     rng.shuffle(&mut offsets);
     let mut sketch = pair(rng, [(short, offsets[0]), (long, offsets[1])]);
@@ -280,35 +338,37 @@ fn pair(rng: &mut Rng, times: [(u64, u64); 2]) -> Sketch {
     }
 }
 
-/// A few tasks, the last with a deadline up to a million and so much to do that its response
-/// time is about that.
+/// A few tasks, the last with a deadline up to a million and as much to do as it can, or a tick
+/// more or less.
 fn slow(rng: &mut Rng) -> Vec<u8> {
-    let count = rng.within(2, 4);
+    let count = rng.below(4);
+    let deadline = rng.pick(&[300_000, 999_999, 1_000_000]);
+    let mut left = deadline + rng.below(3) - 1;
     let mut tasks = Vec::new();
     for place in 0..count {
-        let period = rng.within(10, 3000) as u32;
-        tasks.push(Task {
-            period,
-            offset: 0,
-            deadline: period,
-            worst: (u64::from(period) / (2 * count)).max(1) as u32,
-            priority: 1 + place as u8,
-        });
+        let period = rng.within(10, 3000);
+        let worst = (period / (2 * count)).max(1);
+        left -= worst * deadline.div_ceil(period);
+        tasks.push(task(period, period, worst, 1 + place));
     }
-    let deadline = rng.within(200_000, 1_000_000) as u32;
-    let worst = (u64::from(deadline) * rng.within(30, 52) / 100) as u32;
-    tasks.push(Task {
-        period: 1_000_000,
-        offset: 0,
-        deadline,
-        worst,
-        priority: 200,
-    });
+    let worst = left.min(deadline);
+    tasks.push(task(1_000_000, deadline, worst, 200));
+    rng.shuffle(&mut tasks);
     let sketch = Sketch {
         tasks,
         ..Sketch::default()
     };
     record::file(&sketch.records())
+}
+
+fn task(period: u64, deadline: u64, worst: u64, priority: u64) -> Task {
+    Task {
+        period: period as u32,
+        offset: 0,
+        deadline: deadline as u32,
+        worst: worst as u32,
+        priority: priority as u8,
+    }
 }
 
 /// The longest file there is or one like it, perhaps with more behind it, perhaps harmed.

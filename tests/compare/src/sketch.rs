@@ -56,7 +56,9 @@ impl Sketch {
         }
         for _ in 0..shape.relations {
             let (p, q) = (rng.index(shape.tasks), rng.index(shape.tasks));
-            sketch.relations.extend(relation(rng, &sketch.tasks, p, q));
+            let other = relation(rng, &sketch.tasks, p, q);
+            let found = other.or_else(|| relation(rng, &sketch.tasks, p, p));
+            sketch.relations.extend(found);
         }
         sketch
     }
@@ -160,7 +162,8 @@ pub fn link(
     let common = gcd(spans[0], spans[1]);
     let most = (0..2).map(|s| 60_000 * lens[s].1 as u64 / (spans[s] / common));
     let most = most.min().expect("two sides");
-    let times = rng.below(most.min(6) + 1);
+    let most = if rng.percent(10) { most } else { most.min(6) };
+    let times = rng.below(most + 1);
     let sides = [0, 1].map(|s| Lists {
         prefix: (0..lens[s].0).map(|_| rng.below(5) as u16).collect(),
         cycle: shares(rng, lens[s].1, times * (spans[s] / common)),
