@@ -8,8 +8,13 @@ ghost use Rattle.numbers.specs.Lists.{All};
 ghost use Rattle.format.specs.Ranges.{TaskRange};
 ghost use Rattle.rules.specs.Given.{Of};
 ghost use Rattle.checker.specs.Outcome.{refusal, Behind, Times};
+ghost use Rattle.numbers.specs.Lists.{All};
 ghost use Rattle.rules.specs.Check as rules;
+ghost use Rattle.rules.specs.Terms.{window-of};
+ghost use Rattle.formed.specs.Formed.{ChannelFormed};
+ghost use Rattle.checker.specs.Channels.{Tells, Sound, Made};
 use channel::Verdict;
+use graph::Channel;
 use graph::Task;
 use reply::Found;
 use reply::Reply;
@@ -107,6 +112,60 @@ fn outcome_of(c: usize, verdict: Verdict) -> Outcome
             },
         },
     }
+}
+
+// The length of a job's window.
+fn window(task: Task) -> u32
+    ensures { λ r. ⌜ r ≡ window-of task ⌝ }
+{
+    task.deadline
+}
+
+// Tests 13 to 17 of channel c.
+fn channel_test(tasks: [Task; 32], n: usize, channel: Channel, c: usize) -> Outcome
+    requires { ⌜ Sound tasks n ⌝ }
+    requires { ⌜ ChannelFormed n channel ⌝ }
+    ensures { λ r. ⌜ Tells tasks c channel r ⌝ }
+{
+    let p = channel.producer as usize;
+    let q = channel.consumer as usize;
+    let producer = tasks[p];
+    let consumer = tasks[q];
+    let verdict = channels::judge(
+        channel,
+        producer,
+        consumer,
+        window(producer),
+        window(consumer),
+    );
+    outcome_of(c, verdict)
+}
+
+// Tests 13 to 17, channel by channel.
+fn channel_tests(
+    tasks: [Task; 32],
+    n: usize,
+    channels: [Channel; 64],
+    m: usize,
+    room: usize,
+) -> Outcome
+    requires { ⌜ Sound tasks n ⌝ }
+    requires { ⌜ (m ≤ 64) × All (ChannelFormed n) (take m channels) ⌝ }
+    ensures { λ r. ⌜ Behind 13 14 room (Made tasks n channels m) r ⌝ }
+{
+    let mut c: usize = 0;
+    while c < m {
+        let outcome = channel_test(tasks, n, channels[c], c);
+        match outcome {
+            Outcome::Refused { reply: _ } => {
+                return outcome;
+            }
+            Outcome::Passed => {
+                c += 1;
+            }
+        }
+    }
+    Outcome::Passed
 }
 
 // The figures into the first n places of the report.

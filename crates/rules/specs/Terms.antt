@@ -40,8 +40,11 @@ unfoldable pub response : Graph → ℕ → ℕ
 response g i = suc (least (λ w. leb (demand (machine g) i (suc w)) (suc w)) (task g i .deadline))
 
 -- the ticks from a job's release to the end of its window
+abbrev pub window-of : Task → ℕ
+window-of t = t .deadline
+
 abbrev pub window : Graph → ℕ → ℕ
-window g i = task g i .deadline
+window g i = window-of (task g i)
 
 -- task i as one side of a channel
 abbrev pub side : Graph → ℕ → Rates → Side
