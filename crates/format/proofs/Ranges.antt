@@ -1,6 +1,5 @@
 -- A formed graph is one whose counts and fields keep the plain inequalities, and back. Assumes nothing.
-use mathlib.Core.Path.{_≡_, refl}
-use mathlib.Core.Logic.{_↔_}
+use mathlib.Core.Path.{_≡_}
 use mathlib.Core.List.{List, [], _∷_, _++_, map}
 use Prim.Native.Nat.{ℕ, zero, suc, _+_, _≤_, _<_}
 use native.Mathlib.Omega.{arith}
@@ -11,8 +10,8 @@ use Rattle.graph.specs.declared.Task.{Task}
 use Rattle.graph.specs.declared.Relation.{Relation}
 use Rattle.graph.specs.Model.{Rates, Link, Graph, million, max-channels, bare, no-task, no-relation, task, link, relation}
 use Rattle.format.specs.Record as rec
-use Rattle.format.specs.Reader.{Holds, signed, ranges, InRange, cycles, Hollow, Whole}
-use Rattle.format.specs.Writer.{head, rates-of, rates-from, records, Few, FewRates, Counts, Formed}
+use Rattle.format.specs.Reader.{Holds, signed, ranges, InRange, cycles}
+use Rattle.format.specs.Writer.{head, rates-of, rates-from, records, Few, FewRates, Formed}
 use Rattle.format.specs.Ranges.{TaskRange, Tokens, RatesRange, LinkRange, RelationRange, Ranged}
 use Rattle.numbers.proofs.Lists.{all-left, all-right, all-append, all-map, all-at, all-of-map, map-of-all}
 
@@ -33,7 +32,18 @@ module _ (g : Graph) where
 
   task-in : (t : Task) → InRange g (rec.task t) → TaskRange t
   unfolding ranges
-  task-in t h = record { some-period = omega arith; period = omega arith; offset = omega arith; some-deadline = omega arith; deadline = omega arith; some-worst = omega arith; worst = omega arith; some-priority = omega arith; priority = omega arith }
+  task-in t h =
+      record {
+        some-period = omega arith;
+        period = omega arith;
+        offset = omega arith;
+        some-deadline = omega arith;
+        deadline = omega arith;
+        some-worst = omega arith;
+        worst = omega arith;
+        some-priority = omega arith;
+        priority = omega arith;
+      }
 
   in-task : (t : Task) → TaskRange t → InRange g (rec.task t)
   unfolding ranges
@@ -41,7 +51,16 @@ module _ (g : Graph) where
 
   relation-in : (r : Relation) → InRange g (rec.relation r) → RelationRange n r
   unfolding ranges
-  relation-in r (p, (q, (i, (f, (d, u))))) = record { p = omega arith; q = omega arith; some-n = omega arith; n = omega arith; phi = phase-in (r .phi) f; some-d = omega arith; d = omega arith }
+  relation-in r (p, (q, (i, (f, (d, u))))) =
+      record {
+        p = omega arith;
+        q = omega arith;
+        some-n = omega arith;
+        n = omega arith;
+        phi = phase-in (r .phi) f;
+        some-d = omega arith;
+        d = omega arith;
+      }
 
   in-relation : n ≤ 32 → (r : Relation) → RelationRange n r → InRange g (rec.relation r)
   unfolding ranges

@@ -4,3 +4,4 @@ pub mod Zero
 pub mod Phase
 pub mod Whole
 pub mod Exact
+pub mod Counts

@@ -1,16 +1,15 @@
 -- Lists, sides and arrays that are formed, by their places. Assumes nothing.
 use mathlib.Core.Path.{_≡_, refl, ap, sym, subst, _∙_}
 use mathlib.Core.Bool.{Bool}
-use mathlib.Core.List.{List, [], _∷_, _++_, map}
+use mathlib.Core.List.{List, [], _∷_}
 use Prim.Native.Nat.{ℕ, zero, suc, _+_, _-_, _≤_, _<_}
 use native.Mathlib.Omega.{arith}
-use lib.ListN.{length, getD, take, drop, replicate, length-take, length-drop, length-replicate, getD-replicate}
+use lib.ListN.{length, getD, take, drop, replicate, length-drop, length-replicate, getD-replicate}
 use lib.Seq.{getD-drop, getD-take, length-take-le, take-all, ext-getD}
-use Rattle.numbers.specs.Lists.{All}
 use Rattle.graph.specs.Model.{million}
-use Rattle.graph.specs.Memory.{MemoryLink, MemoryRates, pad, laid-rates, view-rates}
+use Rattle.graph.specs.Memory.{MemoryLink, MemoryRates, pad}
 use Rattle.graph.proofs.Laid.{pad-of, of-pad}
-use Rattle.format.specs.Ranges.{Tokens, RatesRange}
+use Rattle.format.specs.Ranges.{Tokens}
 use Rattle.numbers.proofs.Lists.{all-at, at-all}
 use Rattle.formed.specs.Formed.{Tells, Zeros, SideFormed, ChannelFormed, Place, Places}
 
@@ -43,21 +42,25 @@ module _ (n : ℕ) (xs : List ℕ) (k : ℕ) (size : length xs ≡ n) where
 
 -- ---- a side
 
--- what the test of a side finds
-pub record SideTold (s : MemoryRates) : Type 0 where
+pub record SideCounts (s : MemoryRates) : Type 0 where
   pub prefix : s .plen ≤ 16
   pub some-entry : 1 ≤ s .clen
   pub cycle : s .clen ≤ 32
-  pub prefix-rest : Zeros (drop (s .plen) (s .prefix))
-  pub cycle-rest : Zeros (drop (s .clen) (s .cycle))
+
+pub side-counts : (s : MemoryRates) → SideFormed s → SideCounts s
+side-counts s f =
+    let p : s .plen ≡ length (take (s .plen) (s .prefix)) = ap (λ (x : MemoryRates). x .plen) (f .padded) in
+    let q : s .clen ≡ length (take (s .clen) (s .cycle)) = ap (λ (x : MemoryRates). x .clen) (f .padded) in
+    record { prefix = omega (arith, f .ranged .prefix); some-entry = omega (arith, f .ranged .some-entry); cycle = omega (arith, f .ranged .cycle) }
 
 module _ (s : MemoryRates) (p : length (s .prefix) ≡ 16) (q : length (s .cycle) ≡ 32) where
-  pub side-yes : ((i : ℕ) → i < 16 → Tokens (getD (s .prefix) i 0)) → ((i : ℕ) → i < 32 → Tokens (getD (s .cycle) i 0)) → SideTold s → SideFormed s
-  side-yes f g t =
+  pub side-yes : ((i : ℕ) → i < 16 → Tokens (getD (s .prefix) i 0)) → ((i : ℕ) → i < 32 → Tokens (getD (s .cycle) i 0)) → SideCounts s
+      → Zeros (drop (s .plen) (s .prefix)) → Zeros (drop (s .clen) (s .cycle)) → SideFormed s
+  side-yes f g t y z =
       let l : length (take (s .plen) (s .prefix)) ≡ s .plen = length-take-le (s .plen) (s .prefix) (omega arith) in
       let m : length (take (s .clen) (s .cycle)) ≡ s .clen = length-take-le (s .clen) (s .cycle) (omega arith) in
-      let a = zeros-pad 16 (s .prefix) (s .plen) p (t .prefix) (t .prefix-rest) in
-      let b = zeros-pad 32 (s .cycle) (s .clen) q (t .cycle) (t .cycle-rest) in
+      let a = zeros-pad 16 (s .prefix) (s .plen) p (t .prefix) y in
+      let b = zeros-pad 32 (s .cycle) (s .clen) q (t .cycle) z in
       record {
         padded = λ i. record { prefix = a i; plen = sym l i; cycle = b i; clen = sym m i };
         ranged = record {
@@ -69,17 +72,11 @@ module _ (s : MemoryRates) (p : length (s .prefix) ≡ 16) (q : length (s .cycle
         };
       }
 
-  pub side-no : SideFormed s → SideTold s
-  side-no f =
-      let l : s .plen ≡ length (take (s .plen) (s .prefix)) = ap (λ (x : MemoryRates). x .plen) (f .padded) in
-      let m : s .clen ≡ length (take (s .clen) (s .cycle)) = ap (λ (x : MemoryRates). x .clen) (f .padded) in
-      record {
-        prefix = omega (arith, f .ranged .prefix);
-        some-entry = omega (arith, f .ranged .some-entry);
-        cycle = omega (arith, f .ranged .cycle);
-        prefix-rest = pad-zeros 16 (s .prefix) (s .plen) p (ap (λ (x : MemoryRates). x .prefix) (f .padded));
-        cycle-rest = pad-zeros 32 (s .cycle) (s .clen) q (ap (λ (x : MemoryRates). x .cycle) (f .padded));
-      }
+  pub side-rest : SideFormed s → Zeros (drop (s .plen) (s .prefix)) × Zeros (drop (s .clen) (s .cycle))
+  side-rest f = (
+    pad-zeros 16 (s .prefix) (s .plen) p (ap (λ (x : MemoryRates). x .prefix) (f .padded)),
+    pad-zeros 32 (s .cycle) (s .clen) q (ap (λ (x : MemoryRates). x .cycle) (f .padded)),
+  )
 
 -- ---- a channel, by its sides
 
@@ -113,7 +110,7 @@ no-link =
 -- ---- an array of so many places, place by place
 
 -- past no end, what stands past the end plays no part
-at-any : {A : Type 0} (xs : List A) (i : ℕ) (d e : A) → i < length xs → getD xs i d ≡ getD xs i e
+pub at-any : {A : Type 0} (xs : List A) (i : ℕ) (d e : A) → i < length xs → getD xs i d ≡ getD xs i e
 at-any [] i d e h = absurd (omega arith)
 at-any (x ∷ xs) zero d e h = refl
 at-any (x ∷ xs) (suc i) d e h = at-any xs i d e (omega arith)

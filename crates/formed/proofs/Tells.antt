@@ -1,5 +1,5 @@
 -- What a test tells by each of its answers. Assumes nothing.
-use mathlib.Core.Path.{_≡_, sym}
+use mathlib.Core.Path.{sym}
 use mathlib.Core.Bool.{Bool, true, false, false≢true}
 use Rattle.formed.specs.Formed.{Tells}
 

@@ -1,11 +1,11 @@
 -- A graph in memory is well formed where its counts and its places are, and just there. Assumes nothing.
 use mathlib.Core.Path.{_≡_, refl, ap, ap₂, sym, subst, _∙_}
 use mathlib.Core.List.{List, [], _∷_, map}
-use Prim.Native.Nat.{ℕ, _≤_, _<_}
+use Prim.Native.Nat.{ℕ, _≤_}
 use native.Mathlib.Omega.{arith}
 use lib.ListN.{length, take, length-take, length-map}
 use Rattle.numbers.specs.Lists.{All}
-use Rattle.graph.specs.Model.{Link, no-task, no-relation}
+use Rattle.graph.specs.Model.{no-task, no-relation}
 use Rattle.graph.specs.Memory.{Memory, MemoryLink, view-link, view, pad, laid-link, zero-link, laid}
 use Rattle.format.specs.Ranges.{TaskRange, LinkRange, RelationRange}
 use Rattle.numbers.proofs.Lists.{all-map, map-of-all}

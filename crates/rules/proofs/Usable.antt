@@ -1,9 +1,8 @@
 -- A formed graph is one that the rules can be asked of. Assumes nothing.
-use native.Mathlib.Omega.{arith}
-use Rattle.graph.specs.Model.{Graph, link}
+use Rattle.graph.specs.Model.{Graph}
 use Rattle.format.specs.Writer.{Formed}
 use Rattle.format.proofs.Ranges.{task-ranged, link-ranged}
-use Rattle.rules.specs.Terms.{Timed, Joined, Usable}
+use Rattle.rules.specs.Terms.{Usable}
 
 pub usable : (m : Graph) → Formed m → Usable m
 usable m F =

@@ -8,30 +8,18 @@ use lib.ListN.{length, getD}
 use mir.Syntax.{w16}
 use mir.Val.{Fits}
 use Rattle.formed.proofs.Tells.{no, told}
-use Rattle.formed.proofs.Parts.{rest-told, side-yes, side-no}
+use Rattle.formed.proofs.Parts.{rest-told, side-counts, side-yes, side-rest}
 use Rattle.formed.proofs.side_formed.Statement.{statement}
 use Rattle.formed.proofs.side_formed.Tie as tie
 
 returns : tie.Need-returns
-returns c =
-    let s = c .before .args .s in
-    let p : length (c .before .args .s .prefix) ≡ 16 = search needs in
-    let q : length (c .before .args .s .cycle) ≡ 32 = search needs in
-    no (λ f. omega (arith, side-no s p q f .prefix))
+returns c = no (λ f. omega (arith, side-counts (c .before .args .s) f .prefix))
 
 returns-2 : tie.Need-returns-2
-returns-2 c =
-    let s = c .before .before .args .s in
-    let p : length (c .before .before .args .s .prefix) ≡ 16 = search needs in
-    let q : length (c .before .before .args .s .cycle) ≡ 32 = search needs in
-    no (λ f. omega (arith, side-no s p q f .some-entry))
+returns-2 c = no (λ f. omega (arith, side-counts (c .before .before .args .s) f .some-entry))
 
 returns-3 : tie.Need-returns-3
-returns-3 c =
-    let s = c .before .before .before .args .s in
-    let p : length (c .before .before .before .args .s .prefix) ≡ 16 = search needs in
-    let q : length (c .before .before .before .args .s .cycle) ≡ 32 = search needs in
-    no (λ f. omega (arith, side-no s p q f .cycle))
+returns-3 c = no (λ f. omega (arith, side-counts (c .before .before .before .args .s) f .cycle))
 
 mul-zeros : tie.Need-mul-zeros
 mul-zeros c = search needs
@@ -52,7 +40,7 @@ returns-4 c =
     let s = c .before .before .before .before .before .before .before .before .args .s in
     let p : length (c .before .before .before .before .before .before .before .before .args .s .prefix) ≡ 16 = search needs in
     let q : length (c .before .before .before .before .before .before .before .before .args .s .cycle) ≡ 32 = search needs in
-    no (λ f. rest-told 16 (s .prefix) (s .plen) p (c .before .zeros .result) (c .before .zeros .ensures) .no (not-true (c .before .zeros .result) (c .if4 .taken)) (side-no s p q f .prefix-rest))
+    no (λ f. rest-told 16 (s .prefix) (s .plen) p (c .before .zeros .result) (c .before .zeros .ensures) .no (not-true (c .before .zeros .result) (c .if4 .taken)) (side-rest s p q f .0))
 
 mul-zeros-2 : tie.Need-mul-zeros-2
 mul-zeros-2 c = search needs
@@ -79,8 +67,8 @@ returns-5 c =
     let pre = rest-told 16 (s .prefix) (s .plen) p r (c .before .before .before .before .before .zeros .ensures) .yes (not-false r (c .before .before .before .before .if4 .left)) in
     told (c .zeros2 .result)
     (λ z. side-yes s p q (λ i h. omega (arith, f i h)) (λ i h. omega (arith, g i h))
-    (record { prefix = omega arith; some-entry = omega arith; cycle = omega arith; prefix-rest = pre; cycle-rest = z }))
-    (λ h. side-no s p q h .cycle-rest)
+    (record { prefix = omega arith; some-entry = omega arith; cycle = omega arith }) pre z)
+    (λ h. side-rest s p q h .1)
     (rest-told 32 (s .cycle) (s .clen) q (c .zeros2 .result) (c .zeros2 .ensures))
 
 pub side-formed-spec : {M : Type 1} → statement M
