@@ -34,7 +34,7 @@ use Rattle.checker.specs.Channels.{between, Tells, Sound, Made}
 timed : (ts : List Task) (n : ℕ) → n ≤ length ts → Sound ts n → (i : ℕ) → i < n → Timed (task-of ts i) (window-of (task-of ts i))
 timed ts n few s i l =
     let t = times-at ts n few (s .ranged) i l in
-    record { some-tick = omega (arith, t .some-worst, t .worst-most); fits = t .deadline-most; period-most = t .period-most; offset-most = t .offset-most }
+    record { some-tick = t .some-deadline; fits = t .deadline; period-most = t .period; offset-most = t .offset }
 
 rated : (r : MemoryRates) → SideFormed r → Rated r
 rated r f =

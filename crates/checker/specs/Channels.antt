@@ -7,11 +7,11 @@ use Rattle.numbers.specs.Lists.{All}
 use Rattle.graph.specs.declared.Task.{Task}
 use Rattle.graph.specs.Model.{Graph, task-of}
 use Rattle.graph.specs.Memory.{MemoryLink, view-link}
+use Rattle.format.specs.Ranges.{TaskRange}
 use Rattle.channel.specs.declared.Verdict.{Verdict}
 use Rattle.channel.specs.Channel.{Channel}
 use Rattle.channel.specs.Judge.{Means}
 use Rattle.rules.specs.Terms.{window-of, Usable}
-use Rattle.rules.specs.Given.{Ranged}
 use Rattle.rules.specs.Check as rules
 use Rattle.formed.specs.Formed.{ChannelFormed}
 use Rattle.channels.specs.Sides.{joinedOf}
@@ -31,10 +31,10 @@ pub record Tells (ts : List Task) (c : ℕ) (link : MemoryLink) (r : Outcome) : 
   pub told : refusal r ≡ rules.refusal c verdict
   pub means : Means (between ts link) verdict
 
--- tasks in range, and a channel between two of them
+-- n tasks in range
 pub record Sound (ts : List Task) (n : ℕ) : Type 0 where
   pub few : n ≤ 32
-  pub ranged : Ranged (take n ts)
+  pub ranged : All TaskRange (take n ts)
 
 -- a graph of these tasks and channels
 pub record Made (ts : List Task) (n : ℕ) (cs : List MemoryLink) (m : ℕ) (g : Graph) : Type 0 where

@@ -8,7 +8,6 @@ ghost use Rattle.numbers.specs.Lists.{All};
 ghost use Rattle.format.specs.Ranges.{TaskRange};
 ghost use Rattle.rules.specs.Given.{Of};
 ghost use Rattle.checker.specs.Outcome.{refusal, Behind, Times};
-ghost use Rattle.numbers.specs.Lists.{All};
 ghost use Rattle.rules.specs.Check as rules;
 ghost use Rattle.rules.specs.Terms.{window-of};
 ghost use Rattle.formed.specs.Formed.{ChannelFormed};
