@@ -90,16 +90,21 @@ impl Flow<'_> {
     }
 }
 
-/// L, as the first multiple of one span that the other divides, unless it is too long.
+/// L, as the first multiple of one span that the other divides, unless it is too long. What is
+/// left of the multiple modulo the other span is kept running.
 fn window(producer: &Side, consumer: &Side) -> Option<u64> {
     let most = WINDOW * producer.period.min(consumer.period);
     let (step, other) = (producer.span(), consumer.span());
-    let mut multiple = step;
+    let (mut multiple, mut rest) = (step, step % other);
     while multiple <= most {
-        if multiple % other == 0 {
+        if rest == 0 {
             return Some(multiple);
         }
         multiple += step;
+        rest += step % other;
+        if rest >= other {
+            rest -= other;
+        }
     }
     None
 }

@@ -224,18 +224,14 @@ fn random(rng: &mut Rng) -> Vec<u8> {
 
 /// One channel whose window is near 65,536 of the shorter period.
 fn window(rng: &mut Rng) -> Vec<u8> {
-    let lens = [0; 2].map(|_| (rng.index(3), 1 + rng.index(8)));
+    let turns = rng.pick(&[1, 8]);
+    let lens = [0; 2].map(|_| (rng.index(3), 1 + rng.index(turns)));
     let (scale, short) = (rng.within(1, 3), rng.within(2, 6));
-    let target = rng.within(65_530, 65_542);
-    let long = target / lens[1].1 as u64 + u64::from(rng.percent(50));
+    let target = rng.within(65_533, 65_540);
+    let long = target.div_ceil(lens[1].1 as u64);
     let (short, long) = (scale * short, scale * long);
     let tasks = [short, long].map(|period| (period, rng.below(2 * period)));
     let mut sketch = pair(rng, tasks);
-    let lens = if rng.percent(50) {
-        lens
-    } else {
-        [lens[0], (lens[1].0, 1)]
-    };
     let flip = rng.index(2);
     let link = sketch::link(rng, &sketch.tasks, flip, 1 - flip, lens);
     sketch.links.push(link);
