@@ -1,4 +1,5 @@
 -- The first jobs of a taker decide all. Assumes nothing.
+use mathlib.Core.Path.{_≡_}
 use mathlib.Core.List.{List}
 use Prim.Native.Nat.{ℕ, _*_, _/_, _≤_}
 use native.Mathlib.Nat.{mul-le-mul, lt-div-mul-add}
@@ -35,18 +36,20 @@ countable taker giver tprefix tcycle gprefix gcycle stock L ok =
           );
     }
 
-module _ (t g : Side) (stock L : ℕ) (ok : Repeats t g stock L) where
-  pub searchable : Searchable t g stock (jobs L t g)
+module _ (t g : Side) (stock L : ℕ) (ok : Repeats t g stock L) (n : ℕ) (e : n ≡ jobs L t g) where
+  pub searchable : Searchable t g stock n
   searchable =
       record {
         taker = ok .taker;
         giver = ok .giver;
         stock-most = ok .stock-most;
         jobs-most =
-            jobs-few t g (sound (ok .taker)) (sound (ok .giver)) L (ok .some) (ok .of-giver) (ok .giver .offset-most) (ok .taker .prefix-most) (ok .giver .prefix-most) (ok .length-most);
+            rw e
+            (jobs-few t g (sound (ok .taker)) (sound (ok .giver)) L (ok .some) (ok .of-giver) (ok .giver .offset-most) (ok .taker .prefix-most) (ok .giver .prefix-most) (ok .length-most));
       }
 
-  pub decides : (r : Search) → Finds t g stock (jobs L t g) r → Decides t g stock r
+  pub decides : (r : Search) → Finds t g stock n r → Decides t g stock r
   decides (search.the-variants.Short k) f = f .1
   decides search.the-variants.Nothing f =
-      decided t g (sound (ok .taker)) (sound (ok .giver)) L (ok .some) (ok .of-taker) (ok .of-giver) (ok .balanced) stock f
+      decided t g (sound (ok .taker)) (sound (ok .giver)) L (ok .some) (ok .of-taker) (ok .of-giver) (ok .balanced) stock
+      (λ j h. f j (omega arith))

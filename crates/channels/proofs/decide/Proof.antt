@@ -1,6 +1,5 @@
 -- `channels::decide` meets its contract. Assumes nothing.
 use Rattle.channels.specs.Sides.{sideOf}
-use Rattle.channels.specs.Answers.{Searchable, Finds}
 use Rattle.channels.proofs.Deciding.{countable, searchable, decides}
 use Rattle.channels.proofs.decide.Statement.{statement}
 use Rattle.channels.proofs.decide.Tie as tie
@@ -17,7 +16,7 @@ first-short-requires c κs =
     let a = s .args in
     let t = sideOf (a .taker) (a .tprefix .now) (a .tcycle .now) in
     let g = sideOf (a .giver) (a .gprefix .now) (a .gcycle .now) in
-    rw (c .jobs .ensures) (searchable t g (a .stock) (a .length) (s .pre))
+    searchable t g (a .stock) (a .length) (s .pre) (c .jobs .result) (c .jobs .ensures)
 
 returns : tie.Need-returns
 returns c =
@@ -25,8 +24,7 @@ returns c =
     let a = s .args in
     let t = sideOf (a .taker) (a .tprefix .now) (a .tcycle .now) in
     let g = sideOf (a .giver) (a .gprefix .now) (a .gcycle .now) in
-    decides t g (a .stock) (a .length) (s .pre) (c .first-short .result)
-    (rw (c .before .jobs .ensures) at (c .first-short .ensures))
+    decides t g (a .stock) (a .length) (s .pre) (c .before .jobs .result) (c .before .jobs .ensures) (c .first-short .result) (c .first-short .ensures)
 
 pub decide-spec : {M : Type 1} → statement M
 decide-spec = tie.close (tie.spec jobs-requires first-short-requires returns)
