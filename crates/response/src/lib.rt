@@ -2,6 +2,7 @@
 ghost use mathlib.Core.Path.{_≡_};
 ghost use Prim.Native.Nat.{ℕ, _+_, _≤_, _<_};
 ghost use lib.ListN.{length, take};
+ghost use Rattle.numbers.specs.Numbers.{ceil};
 ghost use Rattle.machine.specs.Machine.{above};
 ghost use Rattle.graph.specs.Model.{Graph, count, task};
 ghost use Rattle.numbers.specs.Lists.{All};
@@ -70,6 +71,14 @@ fn gather(tasks: [Task; 32], n: usize, i: usize) -> Columns
     }
 }
 
+// The jobs of a period that are released within w ticks.
+fn jobs(w: u32, period: u32) -> u32
+    requires { ⌜ (w ≤ 1_000_000) × ((1 ≤ period) × (period ≤ 1_000_000)) ⌝ }
+    ensures { λ r. ⌜ r ≡ ceil w period ⌝ }
+{
+    (w + (period - 1)) / period
+}
+
 // The demand at w of a task that costs `own`, over its columns.
 fn demand(own: u32, costs: &[u32], periods: &[u32], w: u32) -> u64
     requires { ⌜ (own ≤ 1_000_000) × ((w ≤ 1_000_000) × (length (now costs) ≤ 32)) ⌝ }
@@ -80,9 +89,7 @@ fn demand(own: u32, costs: &[u32], periods: &[u32], w: u32) -> u64
     let mut total: u64 = own as u64;
     let mut k: usize = 0;
     while k < costs.len() {
-        let period = periods[k];
-        let jobs = (w + (period - 1)) / period;
-        total += costs[k] as u64 * jobs as u64;
+        total += costs[k] as u64 * jobs(w, periods[k]) as u64;
         k += 1;
     }
     total
