@@ -1,22 +1,24 @@
 -- Accepted graphs that agree on the tasks of priority up to some number report the same figures for them. Assumes nothing.
 use mathlib.Core.Path.{_≡_, refl, sym, ap, ap₂, _∙_}
 use mathlib.Core.Bool.{cond}
+use mathlib.Core.List.{List}
 use Prim.Native.Nat.{ℕ, _*_, _≤_, _<_}
 use native.Mathlib.Nat.{le-antisymm}
 use native.Mathlib.Omega.{arith}
 use borrow.Author.Tests.{eqb-true, lt-ltb, le-ltb, eq-eqb, ne-eqb}
 use lib.Dec.{ltb, eqb}
+use lib.ListN.{getD}
 use Rattle.numbers.specs.Numbers.{sum, ceil, least}
 use Rattle.numbers.proofs.Sums.{cases, sum-ext, sum-mono, sum-swap, sum-at, sum-nought, sum-only}
 use Rattle.numbers.proofs.Least.{least-is}
 use Rattle.machine.specs.Machine.{demand}
 use Rattle.graph.specs.Model.{Graph, count, task}
-use Rattle.rules.specs.Terms.{cost, machine, Usable, response}
+use Rattle.rules.specs.Terms.{cost, machine}
 use Rattle.reply.specs.declared.Reply.the-variants.{Accepted, SamePriority}
-use Rattle.rules.specs.Rules.{Replies}
+use Rattle.rules.specs.Rules.{Answers}
 use Rattle.rules.specs.Agree.{Alike, Shares}
-use Rattle.rules.proofs.Tests.{figure, response-unique}
-use Rattle.rules.proofs.Kept.{unrefused, punctual, distinct}
+use Rattle.rules.proofs.Tests.{response-unique}
+use Rattle.rules.proofs.Kept.{unrefused, distinct}
 
 -- what is counted of the terms whose number is x
 abbrev at : (ℕ → ℕ) → (ℕ → ℕ) → ℕ → ℕ → ℕ
@@ -91,20 +93,21 @@ module _ (g h : Graph) (only : (i j : ℕ) → i < count g → j < count g → r
 back : {g h : Graph} {i j : ℕ} → Alike g i h j → Alike h j g i
 back a = record { period = sym (a .period); deadline = sym (a .deadline); cost = sym (a .cost); priority = sym (a .priority) }
 
-module _ (g h : Graph) (okg : Usable g) (okh : Usable h) (room room′ : ℕ) {m m′ : ℕ} (rg : Replies g room (Accepted m)) (rh : Replies h room′ (Accepted m′))
+-- the reports l and l′ of two accepted graphs, at a task that both have, wherever it stands in them
+module _ (g h : Graph) (room room′ : ℕ) (m m′ : ℕ) (l l′ : List ℕ) (ag : Answers g room (Accepted m) l) (ah : Answers h room′ (Accepted m′) l′)
     (n : ℕ) (gh : Shares n g h) (hg : Shares n h g) where
-  pub same-figures : (i j : ℕ) → i < count g → j < count h → task g i .priority ≤ n → Alike g i h j → response g i ≡ response h j
-  same-figures i j li lj l a =
-      let noneg = unrefused g room rg in
-      let noneh = unrefused h room′ rh in
+  pub same-figures : (i j : ℕ) → i < count g → j < count h → task g i .priority ≤ n → Alike g i h j → getD l i 0 ≡ getD l′ j 0
+  same-figures i j li lj p a =
+      let noneg = unrefused g room (ag .replies) in
+      let noneh = unrefused h room′ (ah .replies) in
       let same : (w : ℕ) → demand (machine g) i w ≡ demand (machine h) j w = λ w.
-      le-antisymm (demand-le g h (distinct g room (λ k. noneg (SamePriority k))) n gh w i j l a) (demand-le h g (distinct h room′ (λ k. noneh (SamePriority k))) n hg w j i (omega (arith, a .priority)) (back a)) in
-      let r = figure g i (punctual g okg room noneg i li) in
-      response-unique (machine h) j (response g i) (response h j)
+      le-antisymm (demand-le g h (distinct g room (λ k. noneg (SamePriority k))) n gh w i j p a) (demand-le h g (distinct h room′ (λ k. noneh (SamePriority k))) n hg w j i (omega (arith, a .priority)) (back a)) in
+      let r = ag .reports .figures i (omega (arith, ag .reports .size)) in
+      response-unique (machine h) j (getD l i 0) (getD l′ j 0)
       (record {
         from-one = r .from-one;
         to-deadline = omega (arith, r .to-deadline, a .deadline);
-        enough = omega (arith, r .enough, same (response g i));
-        least = λ w p d. r .least w p (omega (arith, same w));
+        enough = omega (arith, r .enough, same (getD l i 0));
+        least = λ w q d. r .least w q (omega (arith, same w));
       })
-      (figure h j (punctual h okh room′ noneh j lj))
+      (ah .reports .figures j (omega (arith, ah .reports .size)))
