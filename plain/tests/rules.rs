@@ -4,7 +4,7 @@
 use plain::{Channel, Graph, Rates, Reply, Task, check_graph};
 
 /// Jobs that stand for all jobs without end: windows here are at most 180 ticks long.
-const JOBS: u64 = 600;
+const JOBS: u64 = 300;
 
 /// Numbers from a seed.
 struct Rng(u64);
@@ -54,14 +54,10 @@ fn rates(rng: &mut Rng) -> Rates {
     rates
 }
 
-fn ceil(a: u64, b: u64) -> u64 {
-    a / b + u64::from(a % b > 0)
-}
-
 fn response(task: &Task, tasks: &[Task]) -> Option<u64> {
     let above = |other: &&Task| other.priority < task.priority;
-    let demand = |w| {
-        let cost = |other: &Task| u64::from(other.worst) * ceil(w, other.period.into());
+    let demand = |w: u64| {
+        let cost = |other: &Task| u64::from(other.worst) * w.div_ceil(other.period.into());
         u64::from(task.worst) + tasks.iter().filter(above).map(cost).sum::<u64>()
     };
     (1..=task.deadline.into()).find(|&w| demand(w) <= w)
@@ -74,7 +70,7 @@ fn release(task: &Task, job: u64) -> u64 {
 /// The number of jobs with deadline at most t.
 fn ended(task: &Task, t: u64) -> u64 {
     let done = |job: &u64| release(task, *job) + u64::from(task.deadline) <= t;
-    (0..2 * t + 1).filter(done).count() as u64
+    (0..=t).filter(done).count() as u64
 }
 
 /// X or Y: the sum of the first m rates.
