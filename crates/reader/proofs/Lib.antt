@@ -3,3 +3,8 @@ pub mod Fields
 pub mod Signed
 pub mod Ranges
 pub mod Fronts
+pub mod Places
+pub mod Growth
+pub mod Loop
+pub mod Whole
+pub mod Determined

@@ -1,9 +1,12 @@
 -- What the tests of one record say of it, behind the counts of what is read. Assumes nothing.
 use mathlib.Core.Path.{_≡_}
 use mathlib.Core.Bool.{Bool, true, false}
-use Prim.Native.Nat.{ℕ, _≤_, _<_}
-use lib.ListN.{length}
-use Rattle.format.specs.Record.{Record, task, relation, rank}
+use mathlib.Core.Logic.{_⊎_}
+use mathlib.Core.Option.{Option, none, some}
+use mathlib.Core.List.{List}
+use Prim.Native.Nat.{ℕ, suc, _≤_, _<_}
+use lib.ListN.{length, getD, take, drop}
+use Rattle.format.specs.Record.{Kind, kind-of, size, Record, task, relation, decode, rank}
 use Rattle.format.specs.Reader.{State, InRange, count, limit, Good}
 use Rattle.reader.specs.declared.Test.the-variants.{Unknown, Cut, Down, Range, Full}
 use Rattle.reader.specs.declared.Front.{Front}
@@ -33,3 +36,11 @@ Judges s r (Task t) = (r ≡ task t) × Good s r
 Judges s r (Channel h) = (r ≡ headed h) × Good s r
 Judges s r (Rate e) = (r ≡ entered e) × (s .floor ≤ rank r) × InRange (s .graph) r
 Judges s r (Relation l) = (r ≡ relation l) × Good s r
+
+-- what stands at byte `at` of the file: the tests in order, the first that fires or the record
+abbrev pub TellsOf : State → Option Kind → List ℕ → Front → Type 0
+TellsOf s none bs f = f ≡ Stopped Unknown
+TellsOf s (some k) bs f = ((length bs < size k) × (f ≡ Stopped Cut)) ⊎ ((size k ≤ length bs) × Judges s (decode k (take (size k) bs)) f)
+
+abbrev pub Tells : List ℕ → State → ℕ → Front → Type 0
+Tells file s at f = TellsOf s (kind-of (getD file at 0)) (drop (suc at) file) f

@@ -1,2 +1,4 @@
 pub mod Heads
 pub mod Fronts
+pub mod Records
+pub mod Reading

@@ -2,14 +2,22 @@
 ghost use mathlib.Core.Path.{_≡_};
 ghost use Prim.Native.Nat.{ℕ, _+_, _≤_, _<_};
 ghost use lib.ListN.{length, take, drop};
-ghost use Rattle.graph.specs.Model.{Graph as Model};
-ghost use Rattle.format.specs.Reader.{Holds, signed, InRange, State};
-ghost use Rattle.reader.specs.Fronts.{Decides, Counts, Judges};
-ghost use Rattle.format.specs.Record.{number, unwrap, digits, kind-of, decode, a-task, a-channel, a-rate, a-relation, task, relation};
+ghost use Rattle.graph.specs.Model.{Rates, Link, Graph as Model, bare};
+ghost use Rattle.graph.specs.Memory.{laid-rates, laid-link};
+ghost use Rattle.format.specs.Growth.{part-of, side-of, push-part, push};
+ghost use Rattle.reader.specs.Records.{Room, with-sides, Roomy, Grows, test-of, LaidOut, HoldsOne, Ended};
+ghost use Rattle.reader.specs.Reading.{Gives, Finishes, FirstHollow};
+ghost use Rattle.format.specs.Reader.{Holds, signed, InRange, State, limit, stop-reply};
+ghost use Rattle.reader.specs.Fronts.{Decides, Counts, Judges, Tells};
+ghost use Rattle.format.specs.Record.{number, unwrap, digits, kind-of, decode, a-task, a-channel, a-rate, a-relation, task, rate, relation};
 ghost use Rattle.reader.specs.Heads.{named, length-of, headed, entered};
+use graph::Channel;
 use graph::Graph;
 use graph::Relation;
+use graph::Side;
 use graph::Task;
+use reply::Found;
+use reply::Reply;
 
 // What a kind byte says.
 pub enum Kind {
@@ -53,6 +61,24 @@ pub enum Front {
     Rate(Entry),
     Relation(Relation),
     Stopped(Test),
+}
+
+// How the records end: all are good, or a test fires at the record at a place.
+pub enum End {
+    Whole,
+    Stopped { test: Test, at: usize },
+}
+
+// How the records end, and the graph that the good ones make.
+pub struct Run {
+    pub end: End,
+    pub graph: Graph,
+}
+
+// What reading a file gives: the reply beside the graph, which is the empty one on a refusal.
+pub struct Reading {
+    pub reply: Reply,
+    pub graph: Graph,
 }
 
 // The length of each body, by kind.
@@ -337,4 +363,260 @@ fn relation_front(bytes: &[u8], floor: u32, ntasks: usize, nrelations: usize) ->
         return Front::Stopped(Test::Full);
     }
     Front::Relation(l)
+}
+
+// The record at a place of the file, its body handed on as the part of the file that it is.
+fn front_at(
+    file: &[u8],
+    at: usize,
+    floor: u32,
+    ntasks: usize,
+    nchannels: usize,
+    nrelations: usize,
+) -> Front
+    requires { ⌜ at < length (now file) ⌝ }
+    ensures { λ r. ⌜ ((s : State) → Counts s floor ntasks nchannels nrelations → Tells (now (file .entry)) s at r) ⌝ }
+{
+    let byte = file[at];
+    let len = length_of(byte);
+    let start = at + 1;
+    if file.len() - start < len {
+        return Front::Stopped(Test::Cut);
+    }
+    let bytes = body(file, start, len);
+    match kind_of(byte) {
+        Kind::Task => task_front(bytes, floor, ntasks),
+        Kind::Channel => channel_front(bytes, floor, ntasks, nchannels),
+        Kind::Rate => rate_front(bytes, floor, nchannels),
+        Kind::Relation => relation_front(bytes, floor, ntasks, nrelations),
+        Kind::Unknown => Front::Stopped(Test::Unknown),
+    }
+}
+
+// A side's entries of a part, and a side with one entry more.
+fn count_in(s: Side, part: u8) -> usize
+    ensures { λ r. ⌜ ((l : Rates) → s ≡ laid-rates l → r ≡ length (part-of l part)) ⌝ }
+{
+    if part == 0 { s.plen } else { s.clen }
+}
+
+fn limit_of(part: u8) -> usize
+    ensures { λ r. ⌜ r ≡ limit (rate 0 0 part 0) ⌝ }
+{
+    if part == 0 {
+        Graph::PREFIX
+    } else {
+        Graph::CYCLE
+    }
+}
+
+fn pushed(s: Side, part: u8, tokens: u16) -> Side
+    requires { ⌜ Room s part ⌝ }
+    ensures { λ r. ⌜ ((l : Rates) → s ≡ laid-rates l → r ≡ laid-rates (push-part l part tokens)) ⌝ }
+{
+    let mut t = s;
+    if part == 0 {
+        let n = t.plen;
+        t.prefix[n] = tokens;
+        t.plen = n + 1;
+        t
+    } else {
+        let n = t.clen;
+        t.cycle[n] = tokens;
+        t.clen = n + 1;
+        t
+    }
+}
+
+// A side of a channel, and the channel with another in its place.
+fn side_of(c: Channel, side: u8) -> Side
+    ensures { λ r. ⌜ ((l : Link) → c ≡ laid-link l → r ≡ laid-rates (side-of l side)) ⌝ }
+{
+    if side == 0 {
+        c.production
+    } else {
+        c.consumption
+    }
+}
+
+fn with_side(c: Channel, side: u8, s: Side) -> Channel
+    ensures { λ r. ⌜ ((l : Link) (q : Rates) → c ≡ laid-link l → s ≡ laid-rates q → r ≡ laid-link (with-sides l side q)) ⌝ }
+{
+    let mut d = c;
+    if side == 0 {
+        d.production = s;
+        d
+    } else {
+        d.consumption = s;
+        d
+    }
+}
+
+// A channel without rates; whether a channel has room for an entry; and the channel with it.
+fn link_of(h: Head) -> Channel
+    ensures { λ r. ⌜ r ≡ laid-link (bare (h .producer) (h .consumer) (h .initial) (h .size)) ⌝ }
+{
+    Channel {
+        producer: h.producer,
+        consumer: h.consumer,
+        initial: h.initial,
+        size: h.size,
+        production: Side::NONE,
+        consumption: Side::NONE,
+    }
+}
+
+fn has_room(c: Channel, e: Entry) -> bool
+    ensures { λ r. ⌜ ((l : Link) → c ≡ laid-link l → Decides r (Roomy l e)) ⌝ }
+{
+    let s = side_of(c, e.side);
+    if count_in(s, e.part) < limit_of(e.part) {
+        true
+    } else {
+        false
+    }
+}
+
+fn grown(c: Channel, e: Entry) -> Channel
+    requires { ⌜ Grows c e ⌝ }
+    ensures { λ r. ⌜ ((l : Link) → c ≡ laid-link l → r ≡ laid-link (push (e .side) (e .part) (e .tokens) l)) ⌝ }
+{
+    let s = side_of(c, e.side);
+    let t = pushed(s, e.part, e.tokens);
+    with_side(c, e.side, t)
+}
+
+// The records from the front, each stored where it belongs, up to the end or the first that a test stops.
+fn records(file: &[u8]) -> Run
+    ensures { λ r. ⌜ Ended (now (file .entry)) r ⌝ }
+{
+    let mut graph = Graph::EMPTY;
+    let mut floor: u32 = 0;
+    let mut at: usize = 0;
+    while at < file.len() {
+        let ntasks = graph.ntasks;
+        let nchannels = graph.nchannels;
+        let nrelations = graph.nrelations;
+        match front_at(file, at, floor, ntasks, nchannels, nrelations) {
+            Front::Task(t) => {
+                graph.tasks[ntasks] = t;
+                graph.ntasks = ntasks + 1;
+                floor = rank_of(1, 0, 0, 0);
+                at = at + 1 + BODY[1];
+            }
+            Front::Channel(h) => {
+                graph.channels[nchannels] = link_of(h);
+                graph.nchannels = nchannels + 1;
+                floor = rank_of(2, 0, 0, 0);
+                at = at + 1 + BODY[2];
+            }
+            Front::Rate(e) => {
+                let i = e.channel as usize;
+                let c = graph.channels[i];
+                if !has_room(c, e) {
+                    return Run {
+                        end: End::Stopped {
+                            test: Test::Full,
+                            at: at,
+                        },
+                        graph: graph,
+                    };
+                }
+                graph.channels[i] = grown(c, e);
+                floor = rank_of(3, e.channel, e.side, e.part);
+                at = at + 1 + BODY[3];
+            }
+            Front::Relation(l) => {
+                graph.relations[nrelations] = l;
+                graph.nrelations = nrelations + 1;
+                floor = rank_of(4, 0, 0, 0);
+                at = at + 1 + BODY[4];
+            }
+            Front::Stopped(test) => {
+                return Run {
+                    end: End::Stopped { test: test, at: at },
+                    graph: graph,
+                };
+            }
+        }
+    }
+    Run {
+        end: End::Whole,
+        graph: graph,
+    }
+}
+
+// The reply to a test that fires at a place.
+fn stop_reply(test: Test, at: usize) -> Reply
+    ensures { λ r. ⌜ r ≡ stop-reply (test-of test) at ⌝ }
+{
+    match test {
+        Test::Unknown => Reply::UnknownKind { at: at },
+        Test::Cut => Reply::CutShort { at: at },
+        Test::Down => Reply::OutOfOrder { at: at },
+        Test::Range => Reply::OutOfRange { at: at },
+        Test::Full => Reply::TooMany { at: at },
+    }
+}
+
+// The first cycle without entries, by its place 2 × channel + side.
+fn hollow(graph: Graph) -> Found
+    requires { ⌜ HoldsOne graph ⌝ }
+    ensures { λ r. ⌜ ((g : Model) → LaidOut graph g → FirstHollow g r) ⌝ }
+{
+    let n = graph.nchannels;
+    let mut i: usize = 0;
+    while i < n {
+        let c = graph.channels[i];
+        let p = c.production;
+        let q = c.consumption;
+        if p.clen == 0 {
+            return Found::At { index: 2 * i };
+        }
+        if q.clen == 0 {
+            return Found::At { index: 2 * i + 1 };
+        }
+        i += 1;
+    }
+    Found::Nothing
+}
+
+// The tests of the whole graph: a task, and an entry in each cycle.
+fn finish(graph: Graph) -> Reading
+    requires { ⌜ HoldsOne graph ⌝ }
+    ensures { λ r. ⌜ ((g : Model) → LaidOut graph g → Finishes g r) ⌝ }
+{
+    let n = graph.ntasks;
+    if n == 0 {
+        return Reading {
+            reply: Reply::NoTask,
+            graph: Graph::EMPTY,
+        };
+    }
+    match hollow(graph) {
+        Found::At { index } => Reading {
+            reply: Reply::EmptyCycle { place: index },
+            graph: Graph::EMPTY,
+        },
+        Found::Nothing => Reading {
+            reply: Reply::Accepted { tasks: n },
+            graph: graph,
+        },
+    }
+}
+
+// The reply to a file and the graph that it holds.
+pub fn read(file: &[u8]) -> Reading
+    ensures { λ r. ⌜ Gives (now (file .entry)) r ⌝ }
+{
+    let run = records(file);
+    let end = run.end;
+    let graph = run.graph;
+    match end {
+        End::Stopped { test, at } => Reading {
+            reply: stop_reply(test, at),
+            graph: Graph::EMPTY,
+        },
+        End::Whole => finish(graph),
+    }
 }

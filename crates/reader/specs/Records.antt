@@ -1,0 +1,64 @@
+-- How a channel grows by a rate, and how the records of a file end. Assumes nothing.
+use mathlib.Core.Path.{_≡_}
+use mathlib.Core.Bool.{cond}
+use mathlib.Core.List.{List, []}
+use Prim.Native.Nat.{ℕ, _≤_, _<_}
+use lib.Dec.{eqb}
+use lib.ListN.{length}
+use Rattle.graph.specs.Model.{Rates, Link, Graph}
+use Rattle.graph.specs.Memory.{Memory, MemoryLink, MemoryRates, laid-link, laid}
+use Rattle.format.specs.Growth.{with-rates, list-of}
+use Rattle.format.specs.Reader.{State, Test, unknown, cut, down, range, full, limit, Answer, stopped, Ends, Answers}
+use Rattle.reader.specs.declared.Test.{Test as Named}
+use Rattle.reader.specs.declared.Test.the-variants.{Unknown, Cut, Down, Range, Full}
+use Rattle.reader.specs.declared.Entry.{Entry}
+use Rattle.reader.specs.declared.End.{End}
+use Rattle.reader.specs.declared.End.the-variants.{Whole, Stopped}
+use Rattle.reader.specs.declared.Run.{Run}
+use Rattle.reader.specs.Heads.{entered}
+
+-- the part has a place for one entry more
+abbrev pub Room : MemoryRates → ℕ → Type 0
+Room s part = cond (eqb part 0) (s .plen) (s .clen) < cond (eqb part 0) 16 32
+
+-- a channel with other rates at a side
+abbrev pub with-sides : Link → ℕ → Rates → Link
+with-sides l side q = cond (eqb side 0) (with-rates l q (l .consumption)) (with-rates l (l .production) q)
+
+-- the list that the entry goes into has a place for it
+abbrev pub Roomy : Link → Entry → Type 0
+Roomy l e = length (list-of l (e .side) (e .part)) < limit (entered e)
+
+abbrev pub Grows : MemoryLink → Entry → Type 0
+Grows c e = (l : Link) × (c ≡ laid-link l) × Roomy l e
+
+-- the test that a name stands for
+abbrev pub test-of : Named → Test
+test-of Unknown = unknown
+test-of Cut = cut
+test-of Down = down
+test-of Range = range
+test-of Full = full
+
+-- the graph that memory holds, laid out
+pub record LaidOut (m : Memory) (g : Graph) : Type 0 where
+  pub is : m ≡ laid g
+  pub few : length (g .channels) ≤ 64
+
+abbrev pub HoldsOne : Memory → Type 0
+HoldsOne m = (g : Graph) × LaidOut m g
+
+-- All the file is good records, that lead to a state: the answer to nothing more is the answer to the file.
+pub record AllRead (file : List ℕ) (m : Memory) : Type 0 where
+  pub state : State
+  pub at : ℕ
+  pub so : (a : Answer) → Ends state at [] a → Answers file a
+  pub laid-out : LaidOut m (state .graph)
+
+-- how the records of the file end
+abbrev pub EndedBy : List ℕ → Memory → End → Type 0
+EndedBy file m Whole = AllRead file m
+EndedBy file m (Stopped t at) = Answers file (stopped (test-of t) at)
+
+abbrev pub Ended : List ℕ → Run → Type 0
+Ended file r = EndedBy file (r .graph) (r .end)
