@@ -10,7 +10,7 @@ use plain::{Relation, Task};
 pub type Sort = (&'static str, u64, fn(&mut Rng) -> Vec<u8>);
 
 pub const SORTS: [Sort; 16] = [
-    ("valid", 3000, valid),
+    ("valid", 2990, valid),
     ("large", 250, large),
     ("spoilt", 2500, spoilt),
     ("edge", 1500, edge),
@@ -180,16 +180,7 @@ fn same() -> Relation {
 fn loose(rng: &mut Rng) -> Vec<u8> {
     let mut records: Vec<Record> = (0..rng.within(1, 12)).map(|_| loose_record(rng)).collect();
     if rng.percent(90) {
-        records.sort_by_key(|r| {
-            (
-                r.kind,
-                if r.kind == 3 {
-                    r.fields.clone()
-                } else {
-                    vec![]
-                },
-            )
-        });
+        records.sort_by_key(Record::rank);
     }
     record::file(&records)
 }

@@ -30,6 +30,12 @@ impl Record {
         )
     }
 
+    /// What never goes down in a file: the kind and, among rates, the triple.
+    pub fn rank(&self) -> (u8, Vec<u32>) {
+        let triple = if self.kind == 3 { 3 } else { 0 };
+        (self.kind, self.fields[..triple].to_vec())
+    }
+
     fn encode(&self, file: &mut Vec<u8>) {
         file.push(self.kind);
         for (field, width) in self.fields.iter().zip(WIDTHS[usize::from(self.kind)]) {
