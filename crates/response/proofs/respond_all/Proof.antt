@@ -6,7 +6,7 @@ use lib.ListN.{length, take, getD, set, replicate, length-set}
 use lib.Seq.{getD-set-same, getD-set-other}
 use Rattle.machine.specs.Machine.{IsResponse}
 use Rattle.graph.specs.declared.Task.{Task}
-use Rattle.graph.specs.Model.{Graph}
+use Rattle.response.proofs.Once.{in-time}
 use Rattle.rules.specs.Terms.{machine}
 use Rattle.rules.specs.Given.{Of}
 use Rattle.rules.specs.Rules.{Misses}
@@ -23,10 +23,6 @@ record State (ts : List Task) (n : ℕ) (l : List ℕ) (i : ℕ) : Type 0 where
   size : length l ≡ 32
   done : Of (take n ts) (λ g. (k : ℕ) → k < i → IsResponse (machine g) k (getD l k 0))
   rest : (k : ℕ) → i ≤ k → getD l k 0 ≡ 0
-
--- a task with a response time is not late
-in-time : (g : Graph) (i r : ℕ) → IsResponse (machine g) i r → ¬ Misses g i
-in-time g i r h m = omega (arith, m r (h .from-one) (h .to-deadline), h .enough)
 
 zeros : (n k : ℕ) → _≡_ {A = ℕ} (getD (replicate n 0) k 0) 0
 zeros zero k = refl
