@@ -1,3 +1,4 @@
 pub mod Stages
 pub mod Channels
+pub mod All
 pub mod Copy

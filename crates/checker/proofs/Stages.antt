@@ -1,5 +1,5 @@
 -- What the tests found, stage after stage. Assumes nothing.
-use mathlib.Core.Path.{_≡_, sym, ap, subst}
+use mathlib.Core.Path.{_≡_, sym, ap, subst, _∙_}
 use mathlib.Core.Bool.{Bool, true, false}
 use mathlib.Core.List.{List}
 use mathlib.Core.Option.{Option, none, some}
@@ -8,19 +8,22 @@ use native.Mathlib.Omega.{arith}
 use borrow.Author.Tests.{lt-ltb, le-ltb}
 use lib.Dec.{ltb}
 use lib.ListN.{length, take}
+use lib.Seq.{length-take-le}
 use Rattle.reply.specs.declared.Found.{Found}
 use Rattle.reply.specs.declared.Found.the-variants.{Nothing, At}
-use Rattle.reply.specs.declared.Reply.the-variants.{SamePriority, ShortReport, Late, Overloaded}
+use Rattle.reply.specs.declared.Reply.the-variants.{SamePriority, ShortReport, FalseRelation, Late, Overloaded}
 use Rattle.reply.specs.Found.{Finds}
 use Rattle.graph.specs.declared.Task.{Task}
+use Rattle.graph.specs.declared.Relation.{Relation}
 use Rattle.graph.specs.Model.{Graph, count}
+use Rattle.relations.specs.Relation.{Both}
 use Rattle.response.specs.Response.{Figures, Judged}
 use Rattle.rules.specs.Given.{Of}
-use Rattle.rules.specs.Rules.{Repeats, Misses, load}
+use Rattle.rules.specs.Rules.{Repeats, Fails, Misses, load}
 use Rattle.rules.specs.Stages.{Earliest, Upto, In}
 use Rattle.rules.specs.Check.{when}
 use Rattle.rules.proofs.Find.{next-finds, later-finds}
-use Rattle.rules.proofs.Found.{told, priority-finds, late-finds}
+use Rattle.rules.proofs.Found.{told, priority-finds, relation-finds, late-finds}
 use Rattle.rules.proofs.Tests.{room-finds, load-finds}
 use Rattle.rules.proofs.Given.{count-is}
 use Rattle.checker.specs.declared.Outcome.the-variants.{Passed, Refused}
@@ -83,3 +86,21 @@ module _ (ts : List Task) (n : ℕ) (few : n ≤ length ts) (room : ℕ) where
   -- with no task late, the figures are the response times
   pub in-time : (l : List ℕ) (f : Found) → Of (take n ts) (λ g. Judged g n l f) → f ≡ Nothing → Of (take n ts) (λ g. Times g l Passed)
   in-time l f h q g e i k = subst (Figures g n l) q (h g e .figures) .0 i (omega (arith, count-is ts n g e few))
+
+-- ---- test 10
+
+module _ (ts : List Task) (n : ℕ) (rs : List Relation) (m : ℕ) (few : m ≤ length rs) (room : ℕ) where
+  abbrev pub Relates : Graph → Type 0
+  Relates g = (g .tasks ≡ take n ts) × (g .relations ≡ take m rs)
+
+  falsehoods : (f : Found) → Both (take n ts) (take m rs) (λ g. Finds (Fails g) m f) → (g : Graph) → Relates g → Earliest g room (Upto 10) none → Earliest g room (Upto 11) (told FalseRelation f)
+  falsehoods f h g (e, d) z =
+      let k : length (g .relations) ≡ m = ap length d ∙ length-take-le m rs few in
+      next-finds g room 10 none (told FalseRelation f) z
+      (relation-finds g room f (subst (λ x. Finds (Fails g) x f) (sym k) (h g e d)))
+
+  pub untrue : (i : ℕ) → Both (take n ts) (take m rs) (λ g. Finds (Fails g) m (At i)) → Behind 10 11 room Relates (Refused (FalseRelation i))
+  untrue i h = record { so = falsehoods (At i) h }
+
+  pub true-all : Both (take n ts) (take m rs) (λ g. Finds (Fails g) m Nothing) → Behind 10 11 room Relates Passed
+  true-all h = record { so = falsehoods Nothing h }

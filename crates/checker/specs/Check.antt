@@ -5,6 +5,7 @@ use Prim.Native.Nat.{ℕ}
 use lib.ListN.{length, drop}
 use Rattle.reply.specs.declared.Reply.{Reply}
 use Rattle.reply.specs.declared.Reply.the-variants.{NoFile}
+use Rattle.graph.specs.Model.{Graph}
 use Rattle.graph.specs.Memory.{Memory, view}
 use Rattle.formed.specs.Formed.{WellFormed}
 use Rattle.rules.specs.Rules.{Answers}
@@ -13,6 +14,12 @@ use Rattle.rules.specs.Files.{FileAnswers}
 -- the figures stand in the first places, and later places stay
 abbrev pub Written : List ℕ → List ℕ → List ℕ → Type 0
 Written figures before after = after ≡ figures ++ drop (length figures) before
+
+-- the reply to the lists of a graph, and the report after
+pub record Judges (g : Graph) (before : List ℕ) (r : Reply) (after : List ℕ) : Type 0 where
+  pub figures : List ℕ
+  pub answers : Answers g (length before) r figures
+  pub report : Written figures before after
 
 -- A file and a report before: the reply to the file, and the report after.
 pub record ChecksFile (file before : List ℕ) (r : Reply) (after : List ℕ) : Type 0 where

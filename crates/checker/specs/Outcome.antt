@@ -9,6 +9,7 @@ use Rattle.graph.specs.Model.{Graph, count}
 use Rattle.machine.specs.Machine.{IsResponse}
 use Rattle.rules.specs.Terms.{machine}
 use Rattle.rules.specs.Stages.{Earliest, Upto}
+use Rattle.checker.specs.declared.Timing.{Timing}
 use Rattle.checker.specs.declared.Outcome.{Outcome}
 use Rattle.checker.specs.declared.Outcome.the-variants.{Passed, Refused}
 
@@ -25,3 +26,8 @@ pub record Behind (n m room : ℕ) (P : Graph → Type 0) (r : Outcome) : Type 0
 abbrev pub Times : Graph → List ℕ → Outcome → Type 0
 Times g l Passed = (i : ℕ) → i < count g → IsResponse (machine g) i (getD l i 0)
 Times g l (Refused reply) = Unit {0}
+
+-- what all tests found in the graph
+pub record Tested (g : Graph) (room : ℕ) (r : Timing) : Type 0 where
+  pub earliest : Earliest g room (Upto 14) (refusal (r .outcome))
+  pub times : Times g (r .figures) (r .outcome)

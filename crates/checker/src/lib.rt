@@ -3,17 +3,20 @@ ghost use mathlib.Core.Path.{_≡_};
 ghost use mathlib.Core.List.{_++_};
 ghost use Prim.Native.Nat.{ℕ, _≤_};
 ghost use lib.ListN.{length, take, drop};
-ghost use Rattle.graph.specs.Model.{Graph};
 ghost use Rattle.numbers.specs.Lists.{All};
-ghost use Rattle.format.specs.Ranges.{TaskRange};
+ghost use Rattle.format.specs.Ranges.{TaskRange, RelationRange};
 ghost use Rattle.rules.specs.Given.{Of};
-ghost use Rattle.checker.specs.Outcome.{refusal, Behind, Times};
+ghost use Rattle.checker.specs.Outcome.{refusal, Behind, Times, Tested};
 ghost use Rattle.rules.specs.Check as rules;
 ghost use Rattle.rules.specs.Terms.{window-of};
-ghost use Rattle.formed.specs.Formed.{ChannelFormed};
+ghost use Rattle.graph.specs.Memory.{view};
+ghost use Rattle.formed.specs.Formed.{ChannelFormed, WellFormed};
+ghost use Rattle.checker.specs.Check.{Judges, ChecksGraph};
 ghost use Rattle.checker.specs.Channels.{Tells, Sound, Made};
 use channel::Verdict;
 use graph::Channel;
+use graph::Graph;
+use graph::Relation;
 use graph::Task;
 use reply::Found;
 use reply::Reply;
@@ -42,6 +45,26 @@ fn task_tests(tasks: [Task; 32], n: usize, room: usize) -> Outcome
                 Outcome::Passed
             }
         }
+    }
+}
+
+// Test 10: the relations.
+fn relation_tests(
+    tasks: [Task; 32],
+    n: usize,
+    relations: [Relation; 64],
+    m: usize,
+    room: usize,
+) -> Outcome
+    requires { ⌜ Sound tasks n ⌝ }
+    requires { ⌜ (m ≤ 64) × All (RelationRange n) (take m relations) ⌝ }
+    ensures { λ r. ⌜ Behind 10 11 room (λ g. (g .tasks ≡ take n tasks) × (g .relations ≡ take m relations)) r ⌝ }
+{
+    match relations::false_relation(tasks, n, relations, m) {
+        Found::At { index } => Outcome::Refused {
+            reply: Reply::FalseRelation { relation: index },
+        },
+        Found::Nothing => Outcome::Passed,
     }
 }
 
@@ -167,6 +190,44 @@ fn channel_tests(
     Outcome::Passed
 }
 
+// All tests of a well-formed graph.
+fn all_tests(graph: Graph, room: usize) -> Timing
+    requires { ⌜ WellFormed graph ⌝ }
+    ensures { λ r. ⌜ Tested (view graph) room r ⌝ }
+{
+    let tasks = graph.tasks;
+    let n = graph.ntasks;
+    let relations = graph.relations;
+    let nrelations = graph.nrelations;
+    let first = task_tests(tasks, n, room);
+    if let Outcome::Refused { reply: _ } = first {
+        return Timing {
+            outcome: first,
+            figures: [0; 32],
+        };
+    }
+    let second = relation_tests(tasks, n, relations, nrelations, room);
+    if let Outcome::Refused { reply: _ } = second {
+        return Timing {
+            outcome: second,
+            figures: [0; 32],
+        };
+    }
+    let third = time_tests(tasks, n, room);
+    let timed = third.outcome;
+    if let Outcome::Refused { reply: _ } = timed {
+        return third;
+    }
+    let channels = graph.channels;
+    let nchannels = graph.nchannels;
+    let figures = third.figures;
+    let last = channel_tests(tasks, n, channels, nchannels, room);
+    Timing {
+        outcome: last,
+        figures: figures,
+    }
+}
+
 // The figures into the first n places of the report.
 fn fill(figures: [u32; 32], n: usize, report: &mut [u32])
     requires { ⌜ (n ≤ 32) × (n ≤ length (now report)) ⌝ }
@@ -176,5 +237,34 @@ fn fill(figures: [u32; 32], n: usize, report: &mut [u32])
     while i < n {
         report[i] = figures[i];
         i += 1;
+    }
+}
+
+// The reply to a well-formed graph, and the report.
+fn judge(graph: Graph, report: &mut [u32]) -> Reply
+    requires { ⌜ WellFormed graph ⌝ }
+    ensures { λ r. ⌜ Judges (view graph) (now (report .entry)) r (now (report .exit)) ⌝ }
+{
+    let n = graph.ntasks;
+    let timing = all_tests(graph, report.len());
+    let outcome = timing.outcome;
+    let figures = timing.figures;
+    match outcome {
+        Outcome::Refused { reply } => reply,
+        Outcome::Passed => {
+            fill(figures, n, report);
+            Reply::Accepted { tasks: n }
+        }
+    }
+}
+
+// The reply to a graph in memory, and R of each task in the report where it is accepted.
+pub fn check_graph(graph: Graph, report: &mut [u32]) -> Reply
+    ensures { λ r. ⌜ ChecksGraph graph (now (report .entry)) r (now (report .exit)) ⌝ }
+{
+    if formed::formed(graph) {
+        judge(graph, report)
+    } else {
+        Reply::NoFile
     }
 }
