@@ -2,7 +2,7 @@
 use mathlib.Core.Path.{_≡_, refl, ap, ap₂, sym, _∙_}
 use mathlib.Core.List.{List, [], _∷_, _++_, map, append-assoc, append-nil}
 use Prim.Native.Nat.{ℕ, zero, suc, _+_, _-_, _*_, _≤_, _<_}
-use native.Mathlib.Nat.{zero-add, add-zero}
+use native.Mathlib.Nat.{add-zero}
 use native.Mathlib.Numerals.{add-one}
 use native.Mathlib.Omega.{arith}
 use lib.ListN.{length, getD, take, drop, length-append, length-map}
@@ -10,11 +10,11 @@ use lib.Seq.{take-suc, take-add, length-take-le}
 use Rattle.numbers.specs.Lists.{All}
 use Rattle.graph.specs.Model.{Rates, Link}
 use Rattle.graph.specs.Memory.{MemoryRates, MemoryLink, view-rates, view-link}
-use Rattle.format.specs.Record.{Record, encode, encodes, rate, be, join}
+use Rattle.format.specs.Record.{Record, encodes, rate, be, join}
 use Rattle.format.specs.Writer.{rates-of, rates-from}
 use Rattle.format.proofs.Records.{encodes-append}
 use Rattle.format.proofs.Canon.{map-append}
-use Rattle.writer.specs.Writing.{Puts, sideRecords, ratesOf, SideFits, LinkFits}
+use Rattle.writer.specs.Parts.{Puts, sideRecords, ratesOf, SideFits, LinkFits}
 use Rattle.writer.proofs.Put.{puts-length, puts-then, puts-same, puts-none}
 use Rattle.writer.proofs.Rows.{row-bytes}
 
@@ -103,7 +103,7 @@ Six rs = length (encodes rs) ≡ length rs * 6
 six-both : (qs rs : List Record) → Six qs → Six rs → Six (qs ++ rs)
 six-both qs rs e f = omega (arith, ap length (encodes-append qs rs), length-append (encodes qs) (encodes rs), length-append qs rs)
 
-pub list-bytes : (i side part : ℕ) (xs : List ℕ) → length (encodes (map (rate i side part) xs)) ≡ length xs * 6
+list-bytes : (i side part : ℕ) (xs : List ℕ) → length (encodes (map (rate i side part) xs)) ≡ length xs * 6
 unfolding be join
 list-bytes i side part xs = row-bytes (rate i side part) 6 (λ x. refl) xs
 
@@ -124,6 +124,11 @@ pub links-bytes : (i : ℕ) (cs : List Link) → length (encodes (rates-from i c
 unfolding rates-from encodes
 links-bytes i [] = refl
 links-bytes i (c ∷ cs) = six-both (rates-of i c) (rates-from (suc i) cs) (link-bytes i c) (links-bytes (suc i) cs)
+
+-- the next place behind one side
+pub side-next : (i side : ℕ) (s : MemoryRates) {out : List ℕ} {at : ℕ} {after : List ℕ} {end : ℕ}
+    → SideFits s → Puts out at (encodes (sideRecords i side (view-rates s))) after end → end ≡ at + count s * 6
+side-next i side s f p = omega (arith, side-bytes i side (view-rates s), side-count i side s f)
 
 -- ---- as a loop writes them
 

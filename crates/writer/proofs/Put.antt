@@ -1,7 +1,7 @@
 -- Bytes over a part of the output, and more bytes behind them. Assumes nothing.
 use mathlib.Core.Path.{_≡_, refl, ap, sym, subst, _∙_}
-use mathlib.Core.List.{List, [], _∷_, _++_, append-assoc, append-nil}
-use Prim.Native.Nat.{ℕ, suc, _+_, _/_, _%_, _≤_, _<_}
+use mathlib.Core.List.{List, [], _∷_, _++_, append-assoc}
+use Prim.Native.Nat.{ℕ, _+_, _/_, _%_, _≤_, _<_}
 use native.Mathlib.Nat.{add-zero, zero-add}
 use native.Mathlib.Numerals.{add-one}
 use native.Mathlib.Omega.{arith}
@@ -9,7 +9,7 @@ use lib.ListN.{length, take, drop, set, length-append, length-drop, take-append-
 use lib.Seq.{take-at, drop-drop, drop-at, length-take-le, set-split}
 use Rattle.format.specs.Record.{be}
 use Rattle.format.proofs.Steps.{be-4}
-use Rattle.writer.specs.Writing.{put, Puts}
+use Rattle.writer.specs.Parts.{put, Puts}
 
 module _ (out : List ℕ) (at : ℕ) (bs : List ℕ) (fits : at + length bs ≤ length out) where
   -- what stands before the next place

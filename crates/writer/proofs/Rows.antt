@@ -1,7 +1,7 @@
 -- Records of one sort written one behind the other, as a loop writes them. Assumes nothing.
 use mathlib.Core.Path.{_≡_, refl, ap, sym, _∙_}
 use mathlib.Core.List.{List, [], _∷_, _++_, map}
-use Prim.Native.Nat.{ℕ, suc, _+_, _*_, _≤_, _<_}
+use Prim.Native.Nat.{ℕ, _+_, _*_, _≤_, _<_}
 use native.Mathlib.Numerals.{add-one}
 use native.Mathlib.Omega.{arith}
 use lib.ListN.{length, getD, take, length-append}
@@ -9,7 +9,7 @@ use lib.Seq.{take-suc, take-length}
 use Rattle.format.specs.Record.{Record, encode, encodes}
 use Rattle.format.proofs.Records.{encodes-append, encodes-one}
 use Rattle.format.proofs.Canon.{map-append}
-use Rattle.writer.specs.Writing.{Puts}
+use Rattle.writer.specs.Parts.{Puts}
 use Rattle.writer.proofs.Put.{puts-length, puts-then, puts-same, puts-none}
 
 -- The first i of the first n records f x, of w bytes each, stand in the output from `at` on.

@@ -4,17 +4,16 @@ use mathlib.Core.List.{List, [], _∷_, _++_, map}
 use Prim.Native.Nat.{ℕ, _+_, _*_, _≤_}
 use native.Mathlib.Omega.{arith}
 use lib.ListN.{length, take, length-append, length-map}
-use lib.Seq.{length-take-le}
 use Rattle.numbers.specs.Lists.{All}
 use Rattle.graph.specs.Model.{Rates, Link, Graph}
-use Rattle.graph.specs.Memory.{Memory, MemoryLink, view-link, view, pad, laid-rates, laid-link, zero-link, laid}
+use Rattle.graph.specs.Memory.{Memory, MemoryLink, view-link, view, laid-rates, laid-link, zero-link, laid}
 use Rattle.graph.proofs.Laid.{pad-length, pad-take}
-use Rattle.format.specs.Record.{Record, encode, encodes, task, relation, be, join}
-use Rattle.format.specs.Writer.{head, rates-from, records, bytes, Few, FewRates, Counts}
+use Rattle.format.specs.Record.{encodes, task, relation, be, join}
+use Rattle.format.specs.Writer.{head, records, bytes, Few, FewRates, Counts}
 use Rattle.format.proofs.Records.{encodes-append}
 use Rattle.format.proofs.Size.{bytes-length}
 use Rattle.formed.specs.Formed.{WellFormed}
-use Rattle.writer.specs.Writing.{headOf, ratesOf, SideFits, LinkFits}
+use Rattle.writer.specs.Parts.{headOf, ratesOf, SideFits, LinkFits}
 use Rattle.writer.proofs.Rows.{row-bytes}
 use Rattle.writer.proofs.Links.{links-bytes}
 

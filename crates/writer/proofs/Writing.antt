@@ -1,6 +1,5 @@
 -- The writer's contract: it is met, it leaves one outcome, and files and graphs go round. Assumes nothing.
-use mathlib.Core.Path.{_≡_, refl, ap, ap₂, sym, subst, _∙_}
-use mathlib.Core.Logic.{_↔_}
+use mathlib.Core.Path.{_≡_, refl, ap, sym, subst, _∙_}
 use mathlib.Core.List.{List, _++_}
 use Prim.Native.Nat.{ℕ, _≤_, _<_}
 use native.Mathlib.Omega.{arith}
@@ -8,10 +7,9 @@ use lib.ListN.{length, take, drop}
 use lib.Seq.{take-at}
 use Rattle.reply.specs.declared.Reply.{Reply}
 use Rattle.reply.specs.declared.Reply.the-variants.{Accepted, NoFile, ShortOutput}
-use Rattle.graph.specs.Model.{Graph}
 use Rattle.graph.specs.Memory.{Memory, view, laid}
-use Rattle.graph.proofs.Laid.{view-laid, laid-one}
-use Rattle.format.specs.Reader.{Reads, taken}
+use Rattle.graph.proofs.Laid.{view-laid}
+use Rattle.format.specs.Reader.{taken}
 use Rattle.format.specs.Writer.{bytes, Formed}
 use Rattle.format.proofs.Reading.{one-answer}
 use Rattle.format.proofs.Canon.{reads-bytes}
@@ -19,7 +17,8 @@ use Rattle.format.proofs.Build.{formed-reads}
 use Rattle.format.proofs.Formed.{reads-formed}
 use Rattle.format.proofs.Size.{taken-length}
 use Rattle.formed.specs.Formed.{WellFormed}
-use Rattle.writer.specs.Writing.{ReadsAs, Writes, no-file, short, wrote, put, Puts}
+use Rattle.writer.specs.Writing.{ReadsAs, Writes, no-file, short, wrote}
+use Rattle.writer.specs.Parts.{Puts}
 use Rattle.writer.proofs.Put.{put-front}
 
 -- ---- a graph that some file reads as

@@ -1,14 +1,15 @@
 // The writer: a graph in memory to a graph file.
 ghost use mathlib.Core.Path.{_≡_};
 ghost use mathlib.Core.List.{map};
-ghost use Prim.Native.Nat.{ℕ, _+_, _*_, _≤_};
+ghost use Prim.Native.Nat.{_+_, _*_, _≤_};
 ghost use lib.ListN.{length, take};
 ghost use Rattle.numbers.specs.Lists.{All};
 ghost use Rattle.graph.specs.Memory.{view, view-rates, view-link};
 ghost use Rattle.format.specs.Record.{be, wrap, encode, encodes, task, channel, rate, relation};
 ghost use Rattle.format.specs.Writer.{rates-of, bytes};
 ghost use Rattle.formed.specs.Formed.{WellFormed};
-ghost use Rattle.writer.specs.Writing.{Writes, Puts, headOf, sideRecords, ratesOf, SideFits, LinkFits};
+ghost use Rattle.writer.specs.Parts.{Puts, headOf, sideRecords, ratesOf, SideFits, LinkFits};
+ghost use Rattle.writer.specs.Writing.{Writes};
 use formed::formed;
 use graph::Channel;
 use graph::Graph;
@@ -64,12 +65,12 @@ fn put_task(t: Task, at: usize, out: &mut [u8]) -> usize
     requires { ⌜ at + 18 ≤ length (now out) ⌝ }
     ensures { λ r. ⌜ Puts (now (out .entry)) at (encode (task t)) (now (out .exit)) r ⌝ }
 {
-    let kind = put_byte(1, at, out);
-    let period = put_u32(t.period, kind, out);
-    let offset = put_u32(t.offset, period, out);
-    let deadline = put_u32(t.deadline, offset, out);
-    let worst = put_u32(t.worst, deadline, out);
-    put_byte(t.priority, worst, out)
+    let a = put_byte(1, at, out);
+    let b = put_u32(t.period, a, out);
+    let c = put_u32(t.offset, b, out);
+    let d = put_u32(t.deadline, c, out);
+    let e = put_u32(t.worst, d, out);
+    put_byte(t.priority, e, out)
 }
 
 // The record of a channel.
@@ -171,6 +172,7 @@ fn put_relations(
 fn put_rates(list: &[u16], channel: u8, side: u8, part: u8, at: usize, out: &mut [u8]) -> usize
     requires { ⌜ at + length (now list) * 6 ≤ length (now out) ⌝ }
     ensures { λ r. ⌜ Puts (now (out .entry)) at (encodes (map (rate channel side part) (now (list .entry)))) (now (out .exit)) r ⌝ }
+    ensures { λ r. ⌜ r ≡ at + length (now (list .entry)) * 6 ⌝ }
 {
     let mut next = at;
     let mut i: usize = 0;

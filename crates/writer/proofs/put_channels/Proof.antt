@@ -2,10 +2,10 @@
 use borrow.Author.Needs.{needs}
 use native.Mathlib.Omega.{arith}
 use mathlib.Core.Path.{_≡_, refl}
-use Prim.Native.Nat.{ℕ, _-_, _≤_}
+use Prim.Native.Nat.{_-_, _≤_}
 use lib.ListN.{length}
 use Rattle.format.specs.Record.{be, join}
-use Rattle.writer.specs.Writing.{headOf}
+use Rattle.writer.specs.Parts.{headOf}
 use Rattle.writer.proofs.Rows.{Row, row-start, row-more, row-end}
 use Rattle.writer.proofs.put_channels.Statement.{statement}
 use Rattle.writer.proofs.put_channels.Tie as tie

@@ -2,11 +2,10 @@
 use borrow.Author.Needs.{needs}
 use native.Mathlib.Omega.{arith}
 use mathlib.Core.Path.{ap, sym, _∙_}
-use Rattle.graph.specs.Memory.{view-rates}
 use Rattle.format.specs.Record.{encodes}
 use Rattle.format.proofs.Records.{encodes-append}
 use Rattle.writer.proofs.Put.{puts-then, puts-same}
-use Rattle.writer.proofs.Links.{side-count, side-bytes, link-count, link-sides}
+use Rattle.writer.proofs.Links.{side-next, link-count, link-sides}
 use Rattle.writer.proofs.put_link.Statement.{statement}
 use Rattle.writer.proofs.put_link.Tie as tie
 
@@ -20,9 +19,7 @@ put-side-requires-2 : tie.Need-put-side-requires-2
 put-side-requires-2 c κs =
     let l = c .before .before .before .before .before .before .before .before .args .c in
     let f = c .before .before .before .before .before .before .before .before .pre .0 in
-    let i = c .before .before .before .before .before .before .before .before .args .i in
-    let p = l .production in
-    (f .consumption, omega (arith, link-count i l f, side-bytes i 0 (view-rates p), side-count i 0 p (f .production)))
+    (f .consumption, omega (arith, link-count (c .before .before .before .before .before .before .before .before .args .i) l f, side-next _ _ _ (f .production) (c .before .before .before .put-side .ensures)))
 
 same-length : tie.Need-same-length
 same-length c = search needs

@@ -2,7 +2,7 @@
 use borrow.Author.Needs.{needs}
 use native.Mathlib.Omega.{arith}
 use mathlib.Core.Path.{_≡_}
-use Prim.Native.Nat.{ℕ, _-_, _≤_}
+use Prim.Native.Nat.{_-_, _≤_}
 use lib.ListN.{length}
 use Rattle.writer.proofs.Links.{Linked, linked-start, linked-fits, linked-room, linked-more, linked-end}
 use Rattle.writer.proofs.put_links.Statement.{statement}

@@ -1,8 +1,8 @@
 -- `writer::put_rates` meets its contract: a row of records. Assumes nothing.
 use borrow.Author.Needs.{needs}
 use native.Mathlib.Omega.{arith}
-use mathlib.Core.Path.{_≡_, refl}
-use Prim.Native.Nat.{ℕ, _-_, _≤_}
+use mathlib.Core.Path.{refl}
+use Prim.Native.Nat.{_-_}
 use lib.ListN.{length}
 use Rattle.format.specs.Record.{rate, be, join}
 use Rattle.writer.proofs.Rows.{Row, row-start, row-more, row-all}
@@ -41,7 +41,7 @@ same-length : tie.Need-same-length Inv-loop μ-loop
 same-length c = search needs
 
 returns : tie.Need-returns Inv-loop μ-loop
-returns c = row-all _ _ _ _ _ (c .before .loop .inv) (omega arith)
+returns c = (row-all _ _ _ _ _ (c .before .loop .inv) (omega arith), omega arith)
 
 pub put-rates-spec : {M : Type 1} → statement M
 put-rates-spec =

@@ -2,11 +2,9 @@
 use borrow.Author.Needs.{needs}
 use native.Mathlib.Omega.{arith}
 use mathlib.Core.Path.{sym}
-use lib.ListN.{take}
 use lib.Seq.{length-take-le}
 use Rattle.format.proofs.Records.{encodes-append}
 use Rattle.writer.proofs.Put.{puts-then, puts-same}
-use Rattle.writer.proofs.Links.{list-bytes}
 use Rattle.writer.proofs.put_side.Statement.{statement}
 use Rattle.writer.proofs.put_side.Tie as tie
 
@@ -17,13 +15,13 @@ slice-aggregate-put-rates : tie.Need-slice-aggregate-put-rates
 slice-aggregate-put-rates c =
     let s = c .before .before .before .before .args .s in
     let f = c .before .before .before .before .pre .0 in
-    sym (length-take-le (s .plen) (s .prefix) (f .prefix))
+    omega (arith, length-take-le (s .plen) (s .prefix) (f .prefix), length-take-le (s .clen) (s .cycle) (f .cycle))
 
 put-rates-requires : tie.Need-put-rates-requires
 put-rates-requires c κs =
     let s = c .before .before .before .before .before .args .s in
     let f = c .before .before .before .before .before .pre .0 in
-    omega (arith, length-take-le (s .plen) (s .prefix) (f .prefix))
+    omega (arith, length-take-le (s .plen) (s .prefix) (f .prefix), length-take-le (s .clen) (s .cycle) (f .cycle))
 
 array-share-prefix-cycle : tie.Need-array-share-prefix-cycle
 array-share-prefix-cycle c = search needs
@@ -32,25 +30,19 @@ slice-aggregate-put-rates-2 : tie.Need-slice-aggregate-put-rates-2
 slice-aggregate-put-rates-2 c =
     let s = c .before .before .before .before .before .before .before .before .before .args .s in
     let f = c .before .before .before .before .before .before .before .before .before .pre .0 in
-    sym (length-take-le (s .clen) (s .cycle) (f .cycle))
+    omega (arith, length-take-le (s .plen) (s .prefix) (f .prefix), length-take-le (s .clen) (s .cycle) (f .cycle))
 
 put-rates-requires-2 : tie.Need-put-rates-requires-2
 put-rates-requires-2 c κs =
     let s = c .before .before .before .before .before .before .before .before .before .before .args .s in
     let f = c .before .before .before .before .before .before .before .before .before .before .pre .0 in
-    let a = c .before .before .before .before .before .before .before .before .before .before .args in
-    omega (
-      arith,
-      length-take-le (s .plen) (s .prefix) (f .prefix),
-      length-take-le (s .clen) (s .cycle) (f .cycle),
-      list-bytes (a .channel) (a .side) 0 (take (s .plen) (s .prefix)),
-    )
+    omega (arith, length-take-le (s .plen) (s .prefix) (f .prefix), length-take-le (s .clen) (s .cycle) (f .cycle))
 
 same-length : tie.Need-same-length
 same-length c = search needs
 
 returns : tie.Need-returns
-returns c = puts-same (sym (encodes-append _ _)) (puts-then (c .before .before .before .before .before .before .before .put-rates .ensures) (c .before .before .put-rates2 .ensures))
+returns c = puts-same (sym (encodes-append _ _)) (puts-then (c .before .before .before .before .before .before .before .put-rates .ensures .0) (c .before .before .put-rates2 .ensures .0))
 
 pub put-side-spec : {M : Type 1} → statement M
 put-side-spec =

@@ -1,0 +1,42 @@
+-- Parts of a file at their places in the output, and the parts of a graph in memory. Assumes nothing.
+use mathlib.Core.Path.{_≡_}
+use mathlib.Core.List.{List, _++_, map}
+use Prim.Native.Nat.{ℕ, _+_, _≤_}
+use lib.ListN.{length, take, drop}
+use Rattle.graph.specs.Model.{Rates}
+use Rattle.graph.specs.Memory.{MemoryLink, MemoryRates, view-link}
+use Rattle.format.specs.Record.{Record, channel, rate}
+use Rattle.format.specs.Writer.{rates-from}
+
+-- bs over the places from `at` on
+unfoldable pub put : List ℕ → ℕ → List ℕ → List ℕ
+put out at bs = take at out ++ (bs ++ drop (at + length bs) out)
+
+-- The output `out` with bs from `at` on is `after`, and the next place is `end`.
+pub record Puts (out : List ℕ) (at : ℕ) (bs after : List ℕ) (end : ℕ) : Type 0 where
+  pub bytes : after ≡ put out at bs
+  pub next : end ≡ at + length bs
+  pub room : end ≤ length out
+
+-- the record of a channel in memory
+abbrev pub headOf : MemoryLink → Record
+headOf c = channel (c .producer) (c .consumer) (c .initial) (c .size)
+
+-- the records of one side of channel i
+abbrev pub sideRecords : ℕ → ℕ → Rates → List Record
+sideRecords i side r = map (rate i side 0) (r .prefix) ++ map (rate i side 1) (r .cycle)
+
+-- the records of the rates of the first n channels in memory
+abbrev pub ratesOf : ℕ → List MemoryLink → List Record
+ratesOf n cs = rates-from 0 (map view-link (take n cs))
+
+-- the counts of a side, and of both sides of a channel, are within the places
+pub record SideFits (s : MemoryRates) : Type 0 where
+  pub few : s .plen ≤ 16
+  pub prefix : s .plen ≤ length (s .prefix)
+  pub short : s .clen ≤ 32
+  pub cycle : s .clen ≤ length (s .cycle)
+
+pub record LinkFits (c : MemoryLink) : Type 0 where
+  pub production : SideFits (c .production)
+  pub consumption : SideFits (c .consumption)
