@@ -1,5 +1,6 @@
 -- The writer's contract: it is met, it leaves one outcome, and files and graphs go round. Assumes nothing.
 use mathlib.Core.Path.{_≡_, refl, ap, sym, subst, _∙_}
+use mathlib.Core.Logic.{_↔_}
 use mathlib.Core.List.{List, _++_}
 use Prim.Native.Nat.{ℕ, _≤_, _<_}
 use native.Mathlib.Omega.{arith}
@@ -79,6 +80,15 @@ determined g out (wrote file r l) (no-file k) = absurd (k file r)
 determined g out (wrote file r l) (short other q m) = absurd (omega (arith, ap length (one-file r q)))
 determined g out (wrote file r l) (wrote other q m) = (refl, ap (λ f. f ++ drop (length f) out) (one-file r q))
 
+-- 18 exactly when no file reads as the graph
+pub no-file-iff : (g : Memory) (out : List ℕ) {r : Reply} {after : List ℕ} → Writes g out r after → (r ≡ NoFile) ↔ ((file : List ℕ) → ¬ ReadsAs file g)
+no-file-iff g out w = (to w, λ h. determined g out w (no-file h) .0)
+  where
+    to : {r : Reply} {after : List ℕ} → Writes g out r after → r ≡ NoFile → (file : List ℕ) → ¬ ReadsAs file g
+    to (no-file h) e = h
+    to (short file q l) e = let z : _≡_ {A = ℕ} 0 1 = cc in absurd (omega arith)
+    to (wrote file q l) e = let z : _≡_ {A = ℕ} 0 1 = cc in absurd (omega arith)
+
 -- ---- round trips
 
 -- a file that reads as the graph: written with room for it, the same bytes stand at the front
@@ -86,10 +96,11 @@ pub file-back : (file : List ℕ) (g : Memory) (out : List ℕ) {r : Reply} {aft
     → (r ≡ Accepted (g .ntasks)) × (after ≡ file ++ drop (length file) out)
 file-back file g out q l w = determined g out w (wrote file q l)
 
--- what an accepting writer put at the front reads as the graph
+-- what an accepting writer put at the front reads as the graph, and as no other
 pub graph-back : (g : Memory) (out : List ℕ) (n : ℕ) (after : List ℕ) → Writes g out (Accepted n) after
-    → (file : List ℕ) × ReadsAs file g × (take (length file) after ≡ file)
-graph-back g out n after (wrote file q l) = (file, q, take-at file (drop (length file) out) (length file) refl)
+    → (file : List ℕ) × (take (length file) after ≡ file) × ReadsAs file g × ((h : Memory) → ReadsAs file h → h ≡ g)
+graph-back g out n after (wrote file q l) =
+    (file, take-at file (drop (length file) out) (length file) refl, q, λ h p. one-graph file h g p q)
 
 -- no file that reads as a graph is longer
 pub file-length : (file : List ℕ) (g : Memory) → ReadsAs file g → length file ≤ 39104
