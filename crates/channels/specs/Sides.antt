@@ -15,6 +15,7 @@ use Rattle.channels.specs.declared.Pace.{Pace}
 abbrev pub side : Task → ℕ → Rates → Side
 side t window r = record { period = t .period; offset = t .offset; window = window; prefix = r .prefix; cycle = r .cycle }
 
+-- the channel that the rule speaks of
 abbrev pub joinedOf : MemoryLink → Task → Task → ℕ → ℕ → Channel
 joinedOf c p q pwindow cwindow =
     record {
@@ -24,10 +25,11 @@ joinedOf c p q pwindow cwindow =
       size = c .size;
     }
 
+-- the times of a side
 abbrev pub paceOf : Task → ℕ → Pace
 paceOf t window = record { period = t .period; offset = t .offset; window = window }
 
--- the same of a pace and two lent lists
+-- a side by its times and two lent lists, and a channel by its sides
 abbrev pub sideOf : Pace → List ℕ → List ℕ → Side
 sideOf p prefix cycle = record { period = p .period; offset = p .offset; window = p .window; prefix = prefix; cycle = cycle }
 
@@ -73,7 +75,7 @@ pub record Weighable (ch : Channel) : Type 0 where
 
 -- ---- what the functions hand back
 
--- the sum of a list, which is a number of 64 bits
+-- what one turn of a cycle moves; at most 65,535 tokens for each entry
 abbrev pub turnOf : List ℕ → ℕ
 turnOf cycle = sum (λ i. getD cycle i 0) (length cycle)
 

@@ -42,6 +42,7 @@ fn pace_of(task: Task, window: u32) -> Pace
     }
 }
 
+// The tokens as a number of 64 bits.
 fn wide(tokens: u16) -> u64
     ensures { λ r. ⌜ r ≡ tokens ⌝ }
 {
@@ -184,6 +185,7 @@ fn decide<'a>(
     first_short(tprefix, tcycle, gprefix, gcycle, taker, giver, stock, n)
 }
 
+// The smaller of two.
 fn smaller(a: u64, b: u64) -> u64
     ensures { λ r. ⌜ r ≡ min a b ⌝ }
 {
