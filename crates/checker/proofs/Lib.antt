@@ -1,4 +1,5 @@
 pub mod Stages
 pub mod Channels
 pub mod All
+pub mod Files
 pub mod Copy

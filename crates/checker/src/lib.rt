@@ -11,7 +11,7 @@ ghost use Rattle.rules.specs.Check as rules;
 ghost use Rattle.rules.specs.Terms.{window-of};
 ghost use Rattle.graph.specs.Memory.{view};
 ghost use Rattle.formed.specs.Formed.{ChannelFormed, WellFormed};
-ghost use Rattle.checker.specs.Check.{Judges, ChecksGraph};
+ghost use Rattle.checker.specs.Check.{Judges, ChecksGraph, ChecksFile};
 ghost use Rattle.checker.specs.Channels.{Tells, Sound, Made};
 use channel::Verdict;
 use graph::Channel;
@@ -266,5 +266,20 @@ pub fn check_graph(graph: Graph, report: &mut [u32]) -> Reply
         judge(graph, report)
     } else {
         Reply::NoFile
+    }
+}
+
+// The reply to a file, and R of each task in the report where it is accepted.
+pub fn check_file(file: &[u8], report: &mut [u32]) -> Reply
+    ensures { λ r. ⌜ ChecksFile (now (file .entry)) (now (report .entry)) r (now (report .exit)) ⌝ }
+{
+    let reading = reader::read(file);
+    let reply = reading.reply;
+    let graph = reading.graph;
+    let numbers = reply::numbers_of(reply);
+    if numbers.number == 0 {
+        judge(graph, report)
+    } else {
+        reply
     }
 }
