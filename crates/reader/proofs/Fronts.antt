@@ -1,5 +1,5 @@
 -- The tests of one record, from what code has at hand. Assumes nothing.
-use mathlib.Core.Path.{_≡_, sym, subst, _∙_}
+use mathlib.Core.Path.{_≡_, refl, sym, subst, _∙_}
 use mathlib.Core.Bool.{Bool, true, false, not, false≢true}
 use Prim.Native.Nat.{_≤_, _<_}
 use Rattle.format.specs.Record.{Record, rank}
@@ -13,6 +13,10 @@ yes false d e = absurd (false≢true (sym e))
 pub no : {P : Type 0} (b : Bool) → Decides b P → not b ≡ true → ¬ P
 no true d e = absurd (false≢true e)
 no false d e = d
+
+pub said : {P : Type 0} (b : Bool) → (b ≡ true → P) → not b ≡ false → P
+said true f e = f refl
+said false f e = absurd (false≢true (sym e))
 
 -- r is the record that a body holds, q what code made of it, b whether it is in range
 module _ (s : State) (r q : Record) (e : q ≡ r) (order : s .floor ≤ rank r) (b : Bool) (d : Decides b (InRange (s .graph) q)) where

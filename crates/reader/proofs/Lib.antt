@@ -6,5 +6,6 @@ pub mod Fronts
 pub mod Places
 pub mod Growth
 pub mod Loop
+pub mod Runs
 pub mod Whole
 pub mod Determined

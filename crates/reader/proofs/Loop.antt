@@ -24,16 +24,8 @@ use Rattle.reader.specs.declared.Front.{Front}
 use Rattle.reader.specs.declared.Front.the-variants.{Task, Channel, Rate, Relation, Stopped}
 use Rattle.reader.specs.Heads.{headed, entered}
 use Rattle.reader.specs.Fronts.{Counts, Judges, TellsOf, Tells}
-use Rattle.reader.specs.Records.{Roomy, test-of}
+use Rattle.reader.specs.Records.{Roomy, Stands, stored, test-of}
 use Rattle.reader.proofs.Growth.{change-set}
-
--- good records have led to a state, and its graph is laid out in memory
-pub record Stands (file : List ℕ) (m : Memory) (floor at : ℕ) : Type 0 where
-  pub state : State
-  pub leads : Leads file state at
-  pub floors : state .floor ≡ floor
-  pub laid-out : m ≡ laid (state .graph)
-  pub few : length (state .graph .channels) ≤ 64
 
 pub stands-start : (file : List ℕ) → Stands file (laid empty) 0 0
 stands-start file = record { state = start; leads = leads-start file; floors = refl; laid-out = refl; few = omega arith }
@@ -188,14 +180,7 @@ module _ (file : List ℕ) (m : Memory) (floor at : ℕ) (S : Stands file m floo
 
         pub rate-next : Roomy here e → (v : MemoryLink) → v ≡ laid-link (push (e .side) (e .part) (e .tokens) here) → (to : ℕ) → to ≡ digits 3 (e .channel) (e .side) (e .part)
             → (at + 1 + 5 ≤ length file) × Stands file
-            (record {
-              tasks = m .tasks;
-              ntasks = m .ntasks;
-              channels = set (m .channels) (e .channel) v;
-              nchannels = m .nchannels;
-              relations = m .relations;
-              nrelations = m .nrelations;
-            })
+            (stored m (e .channel) v)
             to (at + 1 + 5)
         unfolding add rank count
         rate-next room v is to f =

@@ -4,10 +4,12 @@ use mathlib.Core.Bool.{cond}
 use mathlib.Core.List.{List, []}
 use Prim.Native.Nat.{ℕ, _≤_, _<_}
 use lib.Dec.{eqb}
-use lib.ListN.{length}
+use lib.ListN.{length, set}
 use Rattle.graph.specs.Model.{Rates, Link, Graph}
-use Rattle.graph.specs.Memory.{Memory, MemoryLink, MemoryRates, laid-link, laid}
+use Rattle.graph.specs.Memory.{Memory, MemoryLink, MemoryRates, laid-rates, laid-link, laid}
 use Rattle.format.specs.Growth.{with-rates, list-of}
+use Rattle.format.specs.Record.{rank}
+use Rattle.format.proofs.Steps.{Leads}
 use Rattle.format.specs.Reader.{State, Test, unknown, cut, down, range, full, limit, Answer, stopped, Ends, Answers}
 use Rattle.reader.specs.declared.Test.{Test as Named}
 use Rattle.reader.specs.declared.Test.the-variants.{Unknown, Cut, Down, Range, Full}
@@ -29,8 +31,45 @@ with-sides l side q = cond (eqb side 0) (with-rates l q (l .consumption)) (with-
 abbrev pub Roomy : Link → Entry → Type 0
 Roomy l e = length (list-of l (e .side) (e .part)) < limit (entered e)
 
-abbrev pub Grows : MemoryLink → Entry → Type 0
-Grows c e = (l : Link) × (c ≡ laid-link l) × Roomy l e
+-- two rates go into the same list
+pub record SameList (e f : Entry) : Type 0 where
+  pub channel : f .channel ≡ e .channel
+  pub side : f .side ≡ e .side
+  pub part : f .part ≡ e .part
+
+-- good records have led to a state, and its graph is laid out in memory
+pub record Stands (file : List ℕ) (m : Memory) (floor at : ℕ) : Type 0 where
+  pub state : State
+  pub leads : Leads file state at
+  pub floors : state .floor ≡ floor
+  pub laid-out : m ≡ laid (state .graph)
+  pub few : length (state .graph .channels) ≤ 64
+
+-- memory with another channel at a place
+abbrev pub stored : Memory → ℕ → MemoryLink → Memory
+stored m i c =
+    record {
+      tasks = m .tasks;
+      ntasks = m .ntasks;
+      channels = set (m .channels) i c;
+      nchannels = m .nchannels;
+      relations = m .relations;
+      nrelations = m .nrelations;
+    }
+
+-- the same with the channel c in the place of the one that the entry names, and with these counts
+pub record Stood (file : List ℕ) (m : Memory) (c : MemoryLink) (e : Entry) (floor ntasks nchannels nrelations at : ℕ) : Type 0 where
+  pub stands : Stands file (stored m (e .channel) c) floor at
+  pub order : floor ≡ rank (entered e)
+  pub tasks : m .ntasks ≡ ntasks
+  pub channels : m .nchannels ≡ nchannels
+  pub relations : m .nrelations ≡ nrelations
+
+-- and with the rates s at the side that the entry names
+pub record Fills (file : List ℕ) (m : Memory) (l : Link) (e : Entry) (floor ntasks nchannels nrelations : ℕ) (s : MemoryRates) (at : ℕ) : Type 0 where
+  pub rates : Rates
+  pub is : s ≡ laid-rates rates
+  pub stood : Stood file m (laid-link (with-sides l (e .side) rates)) e floor ntasks nchannels nrelations at
 
 -- the test that a name stands for
 abbrev pub test-of : Named → Test

@@ -1,11 +1,12 @@
 // The reader of graph files: record by record from the front, each test in its order, into a graph.
 ghost use mathlib.Core.Path.{_≡_};
+ghost use mathlib.Core.Bool.{true};
 ghost use Prim.Native.Nat.{ℕ, _+_, _≤_, _<_};
 ghost use lib.ListN.{length, take, drop};
 ghost use Rattle.graph.specs.Model.{Rates, Link, Graph as Model, bare};
-ghost use Rattle.graph.specs.Memory.{laid-rates, laid-link};
+ghost use Rattle.graph.specs.Memory.{Memory, laid-rates, laid-link};
 ghost use Rattle.format.specs.Growth.{part-of, side-of, push-part, push};
-ghost use Rattle.reader.specs.Records.{Room, with-sides, Roomy, Grows, test-of, LaidOut, HoldsOne, Ended};
+ghost use Rattle.reader.specs.Records.{Room, with-sides, Roomy, SameList, Fills, Stood, test-of, LaidOut, HoldsOne, Ended};
 ghost use Rattle.reader.specs.Reading.{Gives, Finishes, FirstHollow};
 ghost use Rattle.format.specs.Reader.{Holds, signed, InRange, State, limit, stop-reply};
 ghost use Rattle.reader.specs.Fronts.{Decides, Counts, Judges, Tells};
@@ -61,6 +62,17 @@ pub enum Front {
     Rate(Entry),
     Relation(Relation),
     Stopped(Test),
+}
+
+// A side and a channel with the entries of a run of rates, and the place behind the run.
+pub struct Filled {
+    pub side: Side,
+    pub at: usize,
+}
+
+pub struct Grown {
+    pub link: Channel,
+    pub at: usize,
 }
 
 // How the records end: all are good, or a test fires at the record at a place.
@@ -477,13 +489,89 @@ fn has_room(c: Channel, e: Entry) -> bool
     }
 }
 
-fn grown(c: Channel, e: Entry) -> Channel
-    requires { ⌜ Grows c e ⌝ }
-    ensures { λ r. ⌜ ((l : Link) → c ≡ laid-link l → r ≡ laid-link (push (e .side) (e .part) (e .tokens) l)) ⌝ }
+// Whether two rates go into the same list.
+fn same_list(e: Entry, f: Entry) -> bool
+    ensures { λ r. ⌜ (r ≡ true → SameList e f) ⌝ }
+{
+    if e.channel != f.channel {
+        return false;
+    }
+    if e.side != f.side {
+        return false;
+    }
+    if e.part != f.part {
+        return false;
+    }
+    true
+}
+
+// The rates behind one, as long as they go into the same list and it has room: a run is stored as a whole.
+fn run_of(
+    file: &[u8],
+    start: usize,
+    e: Entry,
+    side: Side,
+    floor: u32,
+    ntasks: usize,
+    nchannels: usize,
+    nrelations: usize,
+) -> Filled
+    requires { ⌜ ((m : Memory) × (l : Link) × Fills (now file) m l e floor ntasks nchannels nrelations side start) ⌝ }
+    ensures { λ r. ⌜ (start ≤ r .at) × ((m : Memory) (l : Link) → Fills (now (file .entry)) m l e floor ntasks nchannels nrelations side start → Fills (now (file .entry)) m l e floor ntasks nchannels nrelations (r .side) (r .at)) ⌝ }
+{
+    let mut s = side;
+    let mut at = start;
+    while at < file.len() {
+        let Front::Rate(f) = front_at(file, at, floor, ntasks, nchannels, nrelations) else {
+            return Filled { side: s, at: at };
+        };
+        if !same_list(e, f) {
+            return Filled { side: s, at: at };
+        }
+        if e.part == 0 {
+            let n = s.plen;
+            if Graph::PREFIX <= n {
+                return Filled { side: s, at: at };
+            }
+            s.prefix[n] = f.tokens;
+            s.plen = n + 1;
+            at = at + 1 + BODY[3];
+        } else {
+            let n = s.clen;
+            if Graph::CYCLE <= n {
+                return Filled { side: s, at: at };
+            }
+            s.cycle[n] = f.tokens;
+            s.clen = n + 1;
+            at = at + 1 + BODY[3];
+        }
+    }
+    Filled { side: s, at: at }
+}
+
+// A channel with an entry and the run of those behind it.
+fn link_with(
+    file: &[u8],
+    start: usize,
+    e: Entry,
+    c: Channel,
+    floor: u32,
+    ntasks: usize,
+    nchannels: usize,
+    nrelations: usize,
+) -> Grown
+    requires { ⌜ ((m : Memory) × (l : Link) × (c ≡ laid-link l) × Roomy l e × Stood (now file) m (laid-link (push (e .side) (e .part) (e .tokens) l)) e floor ntasks nchannels nrelations start) ⌝ }
+    ensures { λ r. ⌜ (start ≤ r .at) × ((m : Memory) (l : Link) → c ≡ laid-link l → Stood (now (file .entry)) m (laid-link (push (e .side) (e .part) (e .tokens) l)) e floor ntasks nchannels nrelations start → Stood (now (file .entry)) m (r .link) e floor ntasks nchannels nrelations (r .at)) ⌝ }
 {
     let s = side_of(c, e.side);
     let t = pushed(s, e.part, e.tokens);
-    with_side(c, e.side, t)
+    let f = run_of(file, start, e, t, floor, ntasks, nchannels, nrelations);
+    let u = f.side;
+    let link = with_side(c, e.side, u);
+    Grown {
+        link: link,
+        at: f.at,
+    }
 }
 
 // The records from the front, each stored where it belongs, up to the end or the first that a test stops.
@@ -522,9 +610,12 @@ fn records(file: &[u8]) -> Run
                         graph: graph,
                     };
                 }
-                graph.channels[i] = grown(c, e);
                 floor = rank_of(3, e.channel, e.side, e.part);
-                at = at + 1 + BODY[3];
+                let start = at + 1 + BODY[3];
+                let run = link_with(file, start, e, c, floor, ntasks, nchannels, nrelations);
+                let link = run.link;
+                graph.channels[i] = link;
+                at = run.at;
             }
             Front::Relation(l) => {
                 graph.relations[nrelations] = l;
@@ -613,10 +704,13 @@ pub fn read(file: &[u8]) -> Reading
     let end = run.end;
     let graph = run.graph;
     match end {
-        End::Stopped { test, at } => Reading {
-            reply: stop_reply(test, at),
-            graph: Graph::EMPTY,
-        },
+        End::Stopped { test, at } => {
+            let nothing = Graph::EMPTY;
+            Reading {
+                reply: stop_reply(test, at),
+                graph: nothing,
+            }
+        }
         End::Whole => finish(graph),
     }
 }

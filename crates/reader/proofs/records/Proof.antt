@@ -1,16 +1,18 @@
 -- `reader::records` meets its contract: good records have led to a state whose graph is laid out in memory. The measure is what is left of the file. Assumes nothing.
 use mathlib.Core.Path.{refl, subst}
-use Prim.Native.Nat.{_-_, _<_}
+use Prim.Native.Nat.{_+_, _-_, _<_}
 use native.Mathlib.Omega.{arith}
 use lib.ListN.{length}
 use borrow.Author.Needs.{needs}
 use Rattle.graph.specs.Memory.{laid, pad}
 use Rattle.format.proofs.Steps.{leads-end, bytes-of}
+use Rattle.format.specs.Record.{rank}
 use Rattle.format.specs.Reader.{Bytes}
+use Rattle.reader.specs.Records.{Stood, Stands}
 use Rattle.reader.specs.declared.Front.the-variants.{Task, Channel, Rate, Relation, Stopped}
 use Rattle.reader.specs.Fronts.{Tells}
 use Rattle.reader.proofs.Fronts.{yes, no}
-use Rattle.reader.proofs.Loop.{Stands, stands-start, stands-counts, stands-stop, task-next, channel-next, relation-next, rate-inside, rate-here, rate-full, rate-next}
+use Rattle.reader.proofs.Loop.{stands-start, stands-counts, stands-stop, task-next, channel-next, relation-next, rate-inside, rate-here, rate-full, rate-next}
 use Rattle.reader.proofs.records.Statement.{statement}
 use Rattle.reader.proofs.records.Tie as tie
 
@@ -112,8 +114,8 @@ enum-known-h c = search needs
 link-of-requires : tie.Need-link-of-requires Inv-loop μ-loop
 link-of-requires c κs = search needs
 
-mul-t39 : tie.Need-mul-t39 Inv-loop μ-loop
-mul-t39 c =
+mul-t42 : tie.Need-mul-t42 Inv-loop μ-loop
+mul-t42 c =
     let i = c .before .before .before .before .before .before .loop in
     let file = c .before .before .before .before .before .before .before .before .args .file .now in
     let S = i .inv in
@@ -222,22 +224,12 @@ returns c =
     let e = c .before .before .before .before .before .e .given .0 .0 in
     rate-full file (i .graph) (i .floor) (i .at) S more bytes e T (no (c .before .has-room .result) (c .before .has-room .ensures _ (rate-here file (i .graph) (i .floor) (i .at) S more bytes e T _)) (c .if1 .taken))
 
-grown-requires : tie.Need-grown-requires Inv-loop μ-loop
-grown-requires c κs =
-    let i = c .before .before .before .before .before .before .before .before .before .loop in
-    let file = c .before .before .before .before .before .before .before .before .before .before .before .args .file .now in
-    let S = i .inv in
-    let more : i .at < length file = c .before .before .before .before .before .before .before .before .loop-test .taken in
-    let bytes : Bytes file = bytes-of file (λ j l. omega (arith, c .before .before .before .before .before .before .before .before .before .before .shared-slice-known .given j)) in
-    let T : Tells file (S .state) (i .at) (Rate (c .before .before .before .before .before .e .given .0 .0)) = subst (Tells file (S .state) (i .at)) (c .before .before .before .before .before .e .given .1) (c .before .before .before .before .before .before .before .front-at .ensures (S .state) (stands-counts file (i .graph) (i .floor) (i .at) S)) in
-    let e = c .before .before .before .before .before .e .given .0 .0 in
-    (_, rate-here file (i .graph) (i .floor) (i .at) S more bytes e T _, (yes (c .before .has-room .result) (c .before .has-room .ensures _ (rate-here file (i .graph) (i .floor) (i .at) S more bytes e T _)) (c .if1 .left)))
+rank-of-requires-3 : tie.Need-rank-of-requires-3 Inv-loop μ-loop
+rank-of-requires-3 c κs = search needs
 
-mul-t46 : tie.Need-mul-t46 Inv-loop μ-loop
-mul-t46 c = search needs
-
-element-set-from-graph-2 : tie.Need-element-set-from-graph-2 Inv-loop μ-loop
-element-set-from-graph-2 c =
+add-start : tie.Need-add-start Inv-loop μ-loop
+unfolding rank
+add-start c =
     let i = c .before .before .before .before .before .before .before .before .before .before .loop in
     let file = c .before .before .before .before .before .before .before .before .before .before .before .before .args .file .now in
     let S = i .inv in
@@ -245,57 +237,92 @@ element-set-from-graph-2 c =
     let bytes : Bytes file = bytes-of file (λ j l. omega (arith, c .before .before .before .before .before .before .before .before .before .before .before .shared-slice-known .given j)) in
     let T : Tells file (S .state) (i .at) (Rate (c .before .before .before .before .before .before .e .given .0 .0)) = subst (Tells file (S .state) (i .at)) (c .before .before .before .before .before .before .e .given .1) (c .before .before .before .before .before .before .before .before .front-at .ensures (S .state) (stands-counts file (i .graph) (i .floor) (i .at) S)) in
     let e = c .before .before .before .before .before .before .e .given .0 .0 in
+    let room = (yes (c .before .before .has-room .result) (c .before .before .has-room .ensures _ (rate-here file (i .graph) (i .floor) (i .at) S more bytes e T _)) (c .before .if1 .left)) in
+    let r = rate-next file (i .graph) (i .floor) (i .at) S more bytes e T room _ refl (c .rank-of3 .result) (c .rank-of3 .ensures) in
+    let st : Stood file (i .graph) _ e (c .rank-of3 .result) (i .graph .ntasks) (i .graph .nchannels) (i .graph .nrelations) (i .at + 1 + 5) =
+    record { stands = r .1; order = c .rank-of3 .ensures; tasks = refl; channels = refl; relations = refl } in
+    omega (arith, r .0, c .before .before .before .before .before .before .before .before .before .before .before .before .good)
+
+array-read-start : tie.Need-array-read-start Inv-loop μ-loop
+array-read-start c = search needs
+
+add-start-2 : tie.Need-add-start-2 Inv-loop μ-loop
+unfolding rank
+add-start-2 c =
+    let i = c .before .before .before .before .before .before .before .before .before .before .loop in
+    let file = c .before .before .before .before .before .before .before .before .before .before .before .before .args .file .now in
+    let S = i .inv in
+    let more : i .at < length file = c .before .before .before .before .before .before .before .before .before .loop-test .taken in
+    let bytes : Bytes file = bytes-of file (λ j l. omega (arith, c .before .before .before .before .before .before .before .before .before .before .before .shared-slice-known .given j)) in
+    let T : Tells file (S .state) (i .at) (Rate (c .before .before .before .before .before .before .e .given .0 .0)) = subst (Tells file (S .state) (i .at)) (c .before .before .before .before .before .before .e .given .1) (c .before .before .before .before .before .before .before .before .front-at .ensures (S .state) (stands-counts file (i .graph) (i .floor) (i .at) S)) in
+    let e = c .before .before .before .before .before .before .e .given .0 .0 in
+    let room = (yes (c .before .before .has-room .result) (c .before .before .has-room .ensures _ (rate-here file (i .graph) (i .floor) (i .at) S more bytes e T _)) (c .before .if1 .left)) in
+    let r = rate-next file (i .graph) (i .floor) (i .at) S more bytes e T room _ refl (c .rank-of3 .result) (c .rank-of3 .ensures) in
+    let st : Stood file (i .graph) _ e (c .rank-of3 .result) (i .graph .ntasks) (i .graph .nchannels) (i .graph .nrelations) (i .at + 1 + 5) =
+    record { stands = r .1; order = c .rank-of3 .ensures; tasks = refl; channels = refl; relations = refl } in
+    omega (arith, r .0, c .before .before .before .before .before .before .before .before .before .before .before .before .good)
+
+link-with-requires : tie.Need-link-with-requires Inv-loop μ-loop
+unfolding rank
+link-with-requires c κs =
+    let i = c .before .before .before .before .before .before .before .before .before .before .loop in
+    let file = c .before .before .before .before .before .before .before .before .before .before .before .before .args .file .now in
+    let S = i .inv in
+    let more : i .at < length file = c .before .before .before .before .before .before .before .before .before .loop-test .taken in
+    let bytes : Bytes file = bytes-of file (λ j l. omega (arith, c .before .before .before .before .before .before .before .before .before .before .before .shared-slice-known .given j)) in
+    let T : Tells file (S .state) (i .at) (Rate (c .before .before .before .before .before .before .e .given .0 .0)) = subst (Tells file (S .state) (i .at)) (c .before .before .before .before .before .before .e .given .1) (c .before .before .before .before .before .before .before .before .front-at .ensures (S .state) (stands-counts file (i .graph) (i .floor) (i .at) S)) in
+    let e = c .before .before .before .before .before .before .e .given .0 .0 in
+    let room = (yes (c .before .before .has-room .result) (c .before .before .has-room .ensures _ (rate-here file (i .graph) (i .floor) (i .at) S more bytes e T _)) (c .before .if1 .left)) in
+    let r = rate-next file (i .graph) (i .floor) (i .at) S more bytes e T room _ refl (c .rank-of3 .result) (c .rank-of3 .ensures) in
+    let st : Stood file (i .graph) _ e (c .rank-of3 .result) (i .graph .ntasks) (i .graph .nchannels) (i .graph .nrelations) (i .at + 1 + 5) =
+    record { stands = r .1; order = c .rank-of3 .ensures; tasks = refl; channels = refl; relations = refl } in
+    (i .graph, _, rate-here file (i .graph) (i .floor) (i .at) S more bytes e T _, room, st)
+
+mul-link : tie.Need-mul-link Inv-loop μ-loop
+mul-link c = search needs
+
+element-set-from-link : tie.Need-element-set-from-link Inv-loop μ-loop
+element-set-from-link c =
+    let i = c .before .before .before .before .before .before .before .before .before .before .before .before .loop in
+    let file = c .before .before .before .before .before .before .before .before .before .before .before .before .before .before .args .file .now in
+    let S = i .inv in
+    let more : i .at < length file = c .before .before .before .before .before .before .before .before .before .before .before .loop-test .taken in
+    let bytes : Bytes file = bytes-of file (λ j l. omega (arith, c .before .before .before .before .before .before .before .before .before .before .before .before .before .shared-slice-known .given j)) in
+    let T : Tells file (S .state) (i .at) (Rate (c .before .before .before .before .before .before .before .before .e .given .0 .0)) = subst (Tells file (S .state) (i .at)) (c .before .before .before .before .before .before .before .before .e .given .1) (c .before .before .before .before .before .before .before .before .before .before .front-at .ensures (S .state) (stands-counts file (i .graph) (i .floor) (i .at) S)) in
+    let e = c .before .before .before .before .before .before .before .before .e .given .0 .0 in
     let h = rate-inside file (i .graph) (i .floor) (i .at) S more bytes e T in let k : e .channel < 64 = omega (arith, S .few) in search needs
 
-rank-of-requires-3 : tie.Need-rank-of-requires-3 Inv-loop μ-loop
-rank-of-requires-3 c κs = search needs
-
-add-at-5 : tie.Need-add-at-5 Inv-loop μ-loop
-add-at-5 c =
-    let i = c .before .before .before .before .before .before .before .before .before .before .before .loop in
-    let file = c .before .before .before .before .before .before .before .before .before .before .before .before .before .args .file .now in
-    let S = i .inv in
-    let more : i .at < length file = c .before .before .before .before .before .before .before .before .before .before .loop-test .taken in
-    let bytes : Bytes file = bytes-of file (λ j l. omega (arith, c .before .before .before .before .before .before .before .before .before .before .before .before .shared-slice-known .given j)) in
-    let T : Tells file (S .state) (i .at) (Rate (c .before .before .before .before .before .before .before .e .given .0 .0)) = subst (Tells file (S .state) (i .at)) (c .before .before .before .before .before .before .before .e .given .1) (c .before .before .before .before .before .before .before .before .before .front-at .ensures (S .state) (stands-counts file (i .graph) (i .floor) (i .at) S)) in
-    let e = c .before .before .before .before .before .before .before .e .given .0 .0 in
-    let r = rate-next file (i .graph) (i .floor) (i .at) S more bytes e T (yes (c .before .before .before .has-room .result) (c .before .before .before .has-room .ensures _ (rate-here file (i .graph) (i .floor) (i .at) S more bytes e T _)) (c .before .before .if1 .left)) (c .before .grown .result) (c .before .grown .ensures _ (rate-here file (i .graph) (i .floor) (i .at) S more bytes e T _)) (c .rank-of3 .result) (c .rank-of3 .ensures) in omega (arith, r .0, c .before .before .before .before .before .before .before .before .before .before .before .before .before .good)
-
-array-read-at-3 : tie.Need-array-read-at-3 Inv-loop μ-loop
-array-read-at-3 c = search needs
-
-add-at-6 : tie.Need-add-at-6 Inv-loop μ-loop
-add-at-6 c =
-    let i = c .before .before .before .before .before .before .before .before .before .before .before .loop in
-    let file = c .before .before .before .before .before .before .before .before .before .before .before .before .before .args .file .now in
-    let S = i .inv in
-    let more : i .at < length file = c .before .before .before .before .before .before .before .before .before .before .loop-test .taken in
-    let bytes : Bytes file = bytes-of file (λ j l. omega (arith, c .before .before .before .before .before .before .before .before .before .before .before .before .shared-slice-known .given j)) in
-    let T : Tells file (S .state) (i .at) (Rate (c .before .before .before .before .before .before .before .e .given .0 .0)) = subst (Tells file (S .state) (i .at)) (c .before .before .before .before .before .before .before .e .given .1) (c .before .before .before .before .before .before .before .before .before .front-at .ensures (S .state) (stands-counts file (i .graph) (i .floor) (i .at) S)) in
-    let e = c .before .before .before .before .before .before .before .e .given .0 .0 in
-    let r = rate-next file (i .graph) (i .floor) (i .at) S more bytes e T (yes (c .before .before .before .has-room .result) (c .before .before .before .has-room .ensures _ (rate-here file (i .graph) (i .floor) (i .at) S more bytes e T _)) (c .before .before .if1 .left)) (c .before .grown .result) (c .before .grown .ensures _ (rate-here file (i .graph) (i .floor) (i .at) S more bytes e T _)) (c .rank-of3 .result) (c .rank-of3 .ensures) in omega (arith, r .0, c .before .before .before .before .before .before .before .before .before .before .before .before .before .good)
-
 loop-less-3 : tie.Need-loop-less-3 Inv-loop μ-loop
+unfolding rank
 loop-less-3 c =
-    let i = c .before .before .before .before .before .before .before .before .before .before .before .loop in
-    let file = c .before .before .before .before .before .before .before .before .before .before .before .before .before .args .file .now in
+    let i = c .before .before .before .before .before .before .before .before .before .before .before .before .loop in
+    let file = c .before .before .before .before .before .before .before .before .before .before .before .before .before .before .args .file .now in
     let S = i .inv in
-    let more : i .at < length file = c .before .before .before .before .before .before .before .before .before .before .loop-test .taken in
-    let bytes : Bytes file = bytes-of file (λ j l. omega (arith, c .before .before .before .before .before .before .before .before .before .before .before .before .shared-slice-known .given j)) in
-    let T : Tells file (S .state) (i .at) (Rate (c .before .before .before .before .before .before .before .e .given .0 .0)) = subst (Tells file (S .state) (i .at)) (c .before .before .before .before .before .before .before .e .given .1) (c .before .before .before .before .before .before .before .before .before .front-at .ensures (S .state) (stands-counts file (i .graph) (i .floor) (i .at) S)) in
-    let e = c .before .before .before .before .before .before .before .e .given .0 .0 in
-    let r = rate-next file (i .graph) (i .floor) (i .at) S more bytes e T (yes (c .before .before .before .has-room .result) (c .before .before .before .has-room .ensures _ (rate-here file (i .graph) (i .floor) (i .at) S more bytes e T _)) (c .before .before .if1 .left)) (c .before .grown .result) (c .before .grown .ensures _ (rate-here file (i .graph) (i .floor) (i .at) S more bytes e T _)) (c .rank-of3 .result) (c .rank-of3 .ensures) in omega (arith, r .0, c .before .before .before .before .before .before .before .before .before .before .before .before .before .good)
+    let more : i .at < length file = c .before .before .before .before .before .before .before .before .before .before .before .loop-test .taken in
+    let bytes : Bytes file = bytes-of file (λ j l. omega (arith, c .before .before .before .before .before .before .before .before .before .before .before .before .before .shared-slice-known .given j)) in
+    let T : Tells file (S .state) (i .at) (Rate (c .before .before .before .before .before .before .before .before .e .given .0 .0)) = subst (Tells file (S .state) (i .at)) (c .before .before .before .before .before .before .before .before .e .given .1) (c .before .before .before .before .before .before .before .before .before .before .front-at .ensures (S .state) (stands-counts file (i .graph) (i .floor) (i .at) S)) in
+    let e = c .before .before .before .before .before .before .before .before .e .given .0 .0 in
+    let room = (yes (c .before .before .before .before .has-room .result) (c .before .before .before .before .has-room .ensures _ (rate-here file (i .graph) (i .floor) (i .at) S more bytes e T _)) (c .before .before .before .if1 .left)) in
+    let r = rate-next file (i .graph) (i .floor) (i .at) S more bytes e T room _ refl (c .before .before .rank-of3 .result) (c .before .before .rank-of3 .ensures) in
+    let st : Stood file (i .graph) _ e (c .before .before .rank-of3 .result) (i .graph .ntasks) (i .graph .nchannels) (i .graph .nrelations) (i .at + 1 + 5) =
+    record { stands = r .1; order = c .before .before .rank-of3 .ensures; tasks = refl; channels = refl; relations = refl } in
+    omega (arith, c .before .link-with .ensures .0, c .before .before .before .before .before .before .before .before .before .before .before .loop-test .taken)
 
 loop-again-3 : tie.Need-loop-again-3 Inv-loop μ-loop
+unfolding rank
 loop-again-3 c =
-    let i = c .before .before .before .before .before .before .before .before .before .before .before .loop in
-    let file = c .before .before .before .before .before .before .before .before .before .before .before .before .before .args .file .now in
+    let i = c .before .before .before .before .before .before .before .before .before .before .before .before .loop in
+    let file = c .before .before .before .before .before .before .before .before .before .before .before .before .before .before .args .file .now in
     let S = i .inv in
-    let more : i .at < length file = c .before .before .before .before .before .before .before .before .before .before .loop-test .taken in
-    let bytes : Bytes file = bytes-of file (λ j l. omega (arith, c .before .before .before .before .before .before .before .before .before .before .before .before .shared-slice-known .given j)) in
-    let T : Tells file (S .state) (i .at) (Rate (c .before .before .before .before .before .before .before .e .given .0 .0)) = subst (Tells file (S .state) (i .at)) (c .before .before .before .before .before .before .before .e .given .1) (c .before .before .before .before .before .before .before .before .before .front-at .ensures (S .state) (stands-counts file (i .graph) (i .floor) (i .at) S)) in
-    let e = c .before .before .before .before .before .before .before .e .given .0 .0 in
-    let r = rate-next file (i .graph) (i .floor) (i .at) S more bytes e T (yes (c .before .before .before .has-room .result) (c .before .before .before .has-room .ensures _ (rate-here file (i .graph) (i .floor) (i .at) S more bytes e T _)) (c .before .before .if1 .left)) (c .before .grown .result) (c .before .grown .ensures _ (rate-here file (i .graph) (i .floor) (i .at) S more bytes e T _)) (c .rank-of3 .result) (c .rank-of3 .ensures) in r .1
+    let more : i .at < length file = c .before .before .before .before .before .before .before .before .before .before .before .loop-test .taken in
+    let bytes : Bytes file = bytes-of file (λ j l. omega (arith, c .before .before .before .before .before .before .before .before .before .before .before .before .before .shared-slice-known .given j)) in
+    let T : Tells file (S .state) (i .at) (Rate (c .before .before .before .before .before .before .before .before .e .given .0 .0)) = subst (Tells file (S .state) (i .at)) (c .before .before .before .before .before .before .before .before .e .given .1) (c .before .before .before .before .before .before .before .before .before .before .front-at .ensures (S .state) (stands-counts file (i .graph) (i .floor) (i .at) S)) in
+    let e = c .before .before .before .before .before .before .before .before .e .given .0 .0 in
+    let room = (yes (c .before .before .before .before .has-room .result) (c .before .before .before .before .has-room .ensures _ (rate-here file (i .graph) (i .floor) (i .at) S more bytes e T _)) (c .before .before .before .if1 .left)) in
+    let r = rate-next file (i .graph) (i .floor) (i .at) S more bytes e T room _ refl (c .before .before .rank-of3 .result) (c .before .before .rank-of3 .ensures) in
+    let st : Stood file (i .graph) _ e (c .before .before .rank-of3 .result) (i .graph .ntasks) (i .graph .nchannels) (i .graph .nrelations) (i .at + 1 + 5) =
+    record { stands = r .1; order = c .before .before .rank-of3 .ensures; tasks = refl; channels = refl; relations = refl } in
+    c .before .link-with .ensures .1 (i .graph) _ (rate-here file (i .graph) (i .floor) (i .at) S more bytes e T _) st .stands
 
 enum-known-l : tie.Need-enum-known-l Inv-loop μ-loop
 enum-known-l c = search needs
@@ -333,8 +360,8 @@ add-graph-3 c =
 rank-of-requires-4 : tie.Need-rank-of-requires-4 Inv-loop μ-loop
 rank-of-requires-4 c κs = search needs
 
-add-at-7 : tie.Need-add-at-7 Inv-loop μ-loop
-add-at-7 c =
+add-at-5 : tie.Need-add-at-5 Inv-loop μ-loop
+add-at-5 c =
     let i = c .before .before .before .before .before .before .loop in
     let file = c .before .before .before .before .before .before .before .before .args .file .now in
     let S = i .inv in
@@ -343,11 +370,11 @@ add-at-7 c =
     let T : Tells file (S .state) (i .at) (Relation (c .before .before .l .given .0 .0)) = subst (Tells file (S .state) (i .at)) (c .before .before .l .given .1) (c .before .before .before .before .front-at .ensures (S .state) (stands-counts file (i .graph) (i .floor) (i .at) S)) in
     let r = relation-next file (i .graph) (i .floor) (i .at) S more bytes (c .before .before .l .given .0 .0) T (c .rank-of4 .result) (c .rank-of4 .ensures) in omega (arith, r .1)
 
-array-read-at-4 : tie.Need-array-read-at-4 Inv-loop μ-loop
-array-read-at-4 c = search needs
+array-read-at-3 : tie.Need-array-read-at-3 Inv-loop μ-loop
+array-read-at-3 c = search needs
 
-add-at-8 : tie.Need-add-at-8 Inv-loop μ-loop
-add-at-8 c =
+add-at-6 : tie.Need-add-at-6 Inv-loop μ-loop
+add-at-6 c =
     let i = c .before .before .before .before .before .before .loop in
     let file = c .before .before .before .before .before .before .before .before .args .file .now in
     let S = i .inv in
@@ -420,7 +447,7 @@ records-spec =
     loop-again
     enum-known-h
     link-of-requires
-    mul-t39
+    mul-t42
     element-set-from-graph
     add-graph-2
     rank-of-requires-2
@@ -435,13 +462,13 @@ records-spec =
     element-copy-out-c
     has-room-requires
     returns
-    grown-requires
-    mul-t46
-    element-set-from-graph-2
     rank-of-requires-3
-    add-at-5
-    array-read-at-3
-    add-at-6
+    add-start
+    array-read-start
+    add-start-2
+    link-with-requires
+    mul-link
+    element-set-from-link
     loop-less-3
     loop-again-3
     enum-known-l
@@ -449,9 +476,9 @@ records-spec =
     element-set-from-l
     add-graph-3
     rank-of-requires-4
-    add-at-7
-    array-read-at-4
-    add-at-8
+    add-at-5
+    array-read-at-3
+    add-at-6
     loop-less-4
     loop-again-4
     enum-known-test
