@@ -1,17 +1,21 @@
 -- From what reading a file gives to what checking it gives. Assumes nothing.
 use mathlib.Core.Path.{_≡_, refl, sym, ap, subst, _∙_}
 use mathlib.Core.List.{List, []}
-use Prim.Native.Nat.{ℕ}
+use Prim.Native.Nat.{ℕ, _≤_}
 use native.Mathlib.Omega.{arith}
 use lib.ListN.{length}
 use Rattle.reply.specs.declared.Reply.{Reply}
-use Rattle.reply.specs.Reply.{number}
-use Rattle.graph.specs.Model.{Graph}
+use Rattle.reply.specs.declared.Reply.the-variants.{ShortReport}
+use Rattle.reply.specs.Reply.{number, place}
+use Rattle.numbers.proofs.Sums.{cases}
+use Rattle.graph.specs.Model.{Graph, count}
 use Rattle.graph.specs.Memory.{Memory, view, laid}
 use Rattle.graph.proofs.Laid.{view-laid}
 use Rattle.format.specs.Reader as files
 use Rattle.format.proofs.Formed.{reads-formed}
+use Rattle.rules.specs.Rules.{Replies, passes, fails}
 use Rattle.rules.specs.Files.{Judged}
+use Rattle.rules.proofs.Find.{known}
 use Rattle.formed.specs.Formed.{WellFormed}
 use Rattle.formed.proofs.Exact.{laid-well}
 use Rattle.reader.specs.declared.Reading.{Reading}
@@ -58,3 +62,17 @@ module _ (file : List ℕ) (r : Reading) (g : Gives file r) where
 
   pub read-refused : ¬ (number (r .reply) ≡ 0) → (before : List ℕ) → ChecksFile file before (r .reply) before
   read-refused e before = rw (g .reply) (refused file before (g .answer) (g .means) (λ z. e (ap number (g .reply) ∙ z)))
+
+-- an accepted reply counts no more tasks than the report has places
+answers-fit : (g : Graph) (room : ℕ) (r : Reply) → Replies g room r → number r ≡ 0 → place r ≤ room
+answers-fit g room r (passes a) e = cases (count g) room (λ h. h) (λ h. absurd (a (ShortReport (count g)) (refl, h)))
+answers-fit g room r (fails s h l) e = absurd (omega (arith, known g room s h))
+
+pub accepted-fits : (file before after : List ℕ) (r : Reply) → ChecksFile file before r after → number r ≡ 0 → place r ≤ length before
+accepted-fits file before after r c e = go (c .answers .read) (c .answers .judged)
+  where
+    go : (a : files.Answer) → Judged a (length before) r (c .figures) → place r ≤ length before
+    go (files.taken g) j = answers-fit g (length before) r (j .replies) e
+    go (files.stopped t p) j = absurd (stop-number t p (sym (ap number (j .0)) ∙ e))
+    go files.no-task j = let z : number (files.reply files.no-task) ≡ 0 = sym (ap number (j .0)) ∙ e in absurd (omega arith)
+    go (files.no-entry p) j = let z : number (files.reply (files.no-entry p)) ≡ 0 = sym (ap number (j .0)) ∙ e in absurd (omega arith)
