@@ -1,24 +1,13 @@
--- `reader::length_of` meets its contract: the table's rule is one test that antt computes at each of its five entries. Assumes nothing.
-use mathlib.Core.List.{List, [], _∷_}
-use mathlib.Core.Bool.{Bool}
+-- `reader::length_of` meets its contract: the table's rule is computed at each of its five entries, once. Assumes nothing.
 use mathlib.Core.Path.{_≡_}
 use Prim.Native.Nat.{ℕ, _<_}
 use native.Mathlib.Omega.{arith}
-use lib.Dec.{eqb, eqb→eq}
-use lib.ListN.{getD}
 use borrow.Author.Tests.{ne-eqb}
 use borrow.Author.Needs.{needs}
 use Rattle.format.specs.Record.{kind-of}
-use Rattle.reader.specs.Heads.{length-of}
-use Rattle.reader.proofs.Table.{at}
+use Rattle.reader.proofs.Table.{each}
 use Rattle.reader.proofs.length_of.Statement.{statement}
 use Rattle.reader.proofs.length_of.Tie as tie
-
-table : List ℕ
-table = 0 ∷ 17 ∷ 10 ∷ 5 ∷ 14 ∷ []
-
-right : ℕ → ℕ → Bool
-right k x = eqb x (length-of (kind-of k))
 
 mul-result : tie.Need-mul-result
 mul-result c = search needs
@@ -27,10 +16,10 @@ array-read-result : tie.Need-array-read-result
 array-read-result c = search needs
 
 returns : tie.Need-returns
-unfolding table right kind-of
+unfolding kind-of
 returns c =
     let k = c .before .args .byte in
-    eqb→eq (getD table k 0) (length-of (kind-of k)) (at right table tt k (search needs))
+    each k (search needs) (λ e. rw e) (λ e. rw e) (λ e. rw e) (λ e. rw e) (λ e. rw e)
 
 returns-2 : tie.Need-returns-2
 unfolding kind-of
