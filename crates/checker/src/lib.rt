@@ -121,17 +121,11 @@ fn outcome_of(c: usize, verdict: Verdict) -> Outcome
         Verdict::WindowTooLong => Outcome::Refused {
             reply: Reply::WindowTooLong { channel: c },
         },
-        Verdict::Underflow { job } => Outcome::Refused {
-            reply: Reply::Underflow {
-                channel: c,
-                job: job,
-            },
+        Verdict::Underflow { job: k } => Outcome::Refused {
+            reply: Reply::Underflow { channel: c, job: k },
         },
-        Verdict::Overflow { job } => Outcome::Refused {
-            reply: Reply::Overflow {
-                channel: c,
-                job: job,
-            },
+        Verdict::Overflow { job: j } => Outcome::Refused {
+            reply: Reply::Overflow { channel: c, job: j },
         },
     }
 }

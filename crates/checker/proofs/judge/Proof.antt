@@ -1,5 +1,6 @@
 -- `checker::judge` meets its contract: the answer of all tests, and the report. Assumes nothing.
 use mathlib.Core.Path.{_≡_}
+use native.Mathlib.Omega.{arith}
 use lib.ListN.{length}
 use denote.Ref.{now}
 use borrow.Author.Needs.{needs}
@@ -21,7 +22,8 @@ fill-requires c κs =
     let s = c .before .before .before .before .before .before in
     let g = s .args .graph in
     let t = c .before .before .before .before .all-tests in
-    fits g (s .pre) (now (s .args .report)) (t .result) (c .before .enum-told .given .1) (t .ensures)
+    let f = fits g (s .pre) (now (s .args .report)) (t .result) (c .before .enum-told .given .1) (t .ensures) in
+    (omega (arith, f .0), omega (arith, f .1))
 
 returns : tie.Need-returns
 returns c =
