@@ -1,16 +1,14 @@
--- Each exported function has one outcome for one input, and a file that is taken comes back as it was. Assumes nothing.
+-- Each exported function has one outcome for one input. Assumes nothing.
 use mathlib.Core.Path.{_≡_, refl, ap, sym, subst, _∙_}
 use mathlib.Core.List.{List, _++_}
-use Prim.Native.Nat.{ℕ, _≤_}
-use native.Mathlib.Omega.{arith}
+use Prim.Native.Nat.{ℕ}
 use lib.ListN.{length, drop}
 use Rattle.reply.specs.declared.Reply.{Reply}
 use Rattle.reply.specs.declared.Numbers.{Numbers}
-use Rattle.reply.specs.Reply.{numbered, three, number}
+use Rattle.reply.specs.Reply.{numbered, three}
 use Rattle.rules.proofs.Files.{file-determined}
 use Rattle.reader.specs.declared.Reading.{Reading}
 use Rattle.reader.proofs.Determined as reader
-use Rattle.writer.specs.Writing.{Writes}
 use Rattle.writer.proofs.Writing as writer
 use Rattle.exports.specs.Exports.{Checked, Rewrites, refused, passed, Rewritten, Read}
 

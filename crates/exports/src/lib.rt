@@ -33,13 +33,13 @@ pub extern "C" fn ghadibosh_check(
 fn rewrite(reading: Reading, out: &mut [u8]) -> Reply
     ensures { λ r. ⌜ Rewrites reading (now (out .entry)) r (now (out .exit)) ⌝ }
 {
-    let reply = reading.reply;
+    let answer = reading.reply;
     let graph = reading.graph;
-    let numbers = reply::numbers_of(reply);
+    let numbers = reply::numbers_of(answer);
     if numbers.number == 0 {
         writer::write(graph, out)
     } else {
-        reply
+        answer
     }
 }
 
