@@ -1,6 +1,6 @@
 -- Demand 3, from bytes to running tasks: what the checker accepts keeps its times and its queues, with the figures that stand in the report. Assumes nothing.
-use mathlib.Core.Path.{_≡_, sym, ap, subst, _∙_}
-use mathlib.Core.List.{List, _++_}
+use mathlib.Core.Path.{_≡_, ap, subst, _∙_}
+use mathlib.Core.List.{List}
 use Prim.Native.Nat.{ℕ, _≤_, _<_}
 use native.Mathlib.Omega.{arith}
 use lib.ListN.{length, getD, drop, List·getD-append}
@@ -10,8 +10,7 @@ use Rattle.graph.specs.Memory.{Memory, view}
 use Rattle.format.specs.Reader as files
 use Rattle.format.proofs.Reading.{one-answer}
 use Rattle.format.proofs.Formed.{reads-formed}
-use Rattle.machine.specs.Machine.{Served}
-use Rattle.rules.specs.Terms.{machine, cost}
+use Rattle.rules.specs.Terms.{cost}
 use Rattle.rules.specs.Rules.{Answers}
 use Rattle.rules.specs.Files.{Judged}
 use Rattle.rules.specs.Execution.{Execution, Kept}
@@ -19,7 +18,7 @@ use Rattle.rules.proofs.Kept.{kept}
 use Rattle.rules.proofs.Runs.{execution}
 use Rattle.rules.proofs.Usable.{usable}
 use Rattle.formed.specs.Formed.{WellFormed}
-use Rattle.checker.specs.Check.{Written, ChecksFile, MemoryAnswers, no-file, judged, ChecksGraph}
+use Rattle.checker.specs.Check.{Written, ChecksFile, MemoryAnswers, judged, ChecksGraph}
 
 -- the figures in the first places of the report
 in-report : (g : Graph) (l before after : List ℕ) (e : Execution g) → length l ≡ count g → Written l before after → Kept g l e → Kept g after e

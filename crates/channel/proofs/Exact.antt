@@ -9,10 +9,9 @@ use native.Mathlib.Omega.{arith}
 use borrow.Author.Tests.{lt-ltb, le-ltb}
 use lib.Dec.{ltb}
 use lib.ListN.{length}
-use Rattle.numbers.specs.Numbers.{sum}
 use Rattle.channel.specs.Side.{Side, Sound, release, end, rate, total, turn, span, ended, jobs}
 use Rattle.channel.specs.Channel.{Channel, Balanced, Underflows, Overflows, Passes, Part, Ticks, Choice, moved, Moment, before, put-made, take-made, Breaks}
-use Rattle.numbers.proofs.Sums.{cases, sum-zero, sum-le, sum-below, sum-above}
+use Rattle.numbers.proofs.Sums.{cases, sum-zero, sum-below, sum-above}
 use Rattle.channel.proofs.Jobs.{ended-iff, release-late, release-mono}
 use Rattle.channel.proofs.Periodic.{starves, decided}
 use Rattle.channel.proofs.Parts.{short-over, over-short, parts-stay}
@@ -73,21 +72,6 @@ moved-zero s ts =
       sum-zero (rate s),
       sum-below (movedBy s ts 0) (rate s) 0 1 (λ j _. cond-le (ltb (ts .tick j) 0) (rate s j)) (λ j _. moved-none s ts 0 j zero-le),
     )
-
--- `moved` counts every job, however many more are asked
-pub moved-more : (s : Side) → Sound s → (ts : Ticks s) (n m : ℕ) → n ≤ m → sum (movedBy s ts n) m ≡ moved s ts n
-unfolding moved
-moved-more s ok ts n m h =
-    omega (
-      arith,
-      sum-below (movedBy s ts n) (movedBy s ts n) n m (λ j _. le-refl (movedBy s ts n j)) late,
-      sum-below (movedBy s ts n) (movedBy s ts n) n (suc n) (λ j _. le-refl (movedBy s ts n j)) late,
-      sum-le (movedBy s ts n) n m h,
-      sum-le (movedBy s ts n) n (suc n) (omega arith),
-    )
-  where
-    late : (j : ℕ) → n ≤ j → movedBy s ts n j ≡ 0
-    late j l = moved-none s ts n j (omega (arith, ts .early j, release-late s ok j))
 
 module _ (ch : Channel) (okp : Sound (ch .producer)) (okc : Sound (ch .consumer)) where
   -- takes early and first, puts late; and the other way round

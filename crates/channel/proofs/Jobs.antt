@@ -3,7 +3,7 @@ use mathlib.Core.Path.{_≡_, sym, ap, _∙_}
 use mathlib.Core.Bool.{cond}
 use mathlib.Core.Logic.{_↔_}
 use Prim.Native.Nat.{ℕ, _+_, _*_, _-_, _/_, _≤_, _<_}
-use native.Mathlib.Nat.{le-div-iff-mul-le, add-mul-div-right, div-eq-of-lt, le-mul-of-pos-right, mul-le-mul-right, add-div-right}
+use native.Mathlib.Nat.{le-div-iff-mul-le, add-mul-div-right, le-mul-of-pos-right, mul-le-mul-right}
 use native.Mathlib.Omega.{arith}
 use borrow.Author.Tests.{le-leb, lt-leb}
 use lib.Dec.{leb}
@@ -57,15 +57,6 @@ module _ (s : Side) (ok : Sound s) where
   -- a count of ended jobs that cannot go on is the number of them
   pub ended-is : (q t : ℕ) → q ≤ ended s t → t < end s q → ended s t ≡ q
   ended-is q t h l = cases (ended s t) q (λ e. omega arith) (λ e. omega (arith, ended-iff q t .0 e))
-
-  pub ended-none : (t : ℕ) → t < s .offset + s .window → ended s t ≡ 0
-  ended-none t h = ended-closed t ∙ div-eq-of-lt (omega arith)
-
-  pub ended-some : (t : ℕ) → s .offset + s .window ≤ t → ended s t ≡ (t - s .offset - s .window) / s .period + 1
-  ended-some t h =
-      ended-closed t
-      ∙ ap (λ x. x / s .period) (omega arith)
-      ∙ add-div-right (t - s .offset - s .window) period-pos
 
   -- c periods later, c more have ended
   pub ended-later : (t c : ℕ) → s .offset + s .window ≤ t → ended s (t + c * s .period) ≡ ended s t + c

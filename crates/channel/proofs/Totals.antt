@@ -1,15 +1,11 @@
 -- What the first jobs of a side move. Assumes nothing.
 use mathlib.Core.Path.{_≡_, sym, ap, _∙_, subst}
-use mathlib.Core.Bool.{Bool, true, false, cond}
-use mathlib.Core.List.{List}
-use Prim.Native.Nat.{ℕ, zero, suc, _+_, _*_, _-_, _/_, _%_, _≤_, _<_}
-use native.Mathlib.Nat.{mod-eq-of-lt, add-mod-right, add-assoc, add-zero, mod-lt, div-add-mod'}
+use Prim.Native.Nat.{ℕ, zero, suc, _+_, _*_, _-_, _%_, _≤_}
+use native.Mathlib.Nat.{mod-eq-of-lt, add-mod-right, add-assoc, add-zero}
 use native.Mathlib.Omega.{arith}
 use borrow.Author.Tests.{le-ltb, ne-eqb}
-use lib.Dec.{ltb}
 use lib.ListN.{length, getD}
-use Rattle.numbers.specs.Numbers.{sum}
-use Rattle.graph.specs.Rates.{listOf, placeIn, placeOf, rateOf}
+use Rattle.graph.specs.Rates.{listOf, placeIn, rateOf}
 use Rattle.channel.specs.Side.{Side, Sound, rate, total, turn}
 use Rattle.numbers.proofs.Sums.{sum-zero, sum-suc, sum-ext, sum-split, sum-le}
 
@@ -19,15 +15,6 @@ total-mono s = sum-le (rate s)
 pub total-bound : (s : Side) (b : ℕ) → ((j : ℕ) → rate s j ≤ b) → (m : ℕ) → total s m ≤ m * b
 total-bound s b h zero = omega (arith, sum-zero (rate s))
 total-bound s b h (suc m) = omega (arith, sum-suc (rate s) m, h m, total-bound s b h m)
-
-either : (t : Bool) (p c : List ℕ) (b i : ℕ) → getD p i 0 ≤ b → getD c i 0 ≤ b → getD (cond t p c) i 0 ≤ b
-either true p c b i h l = h
-either false p c b i h l = l
-
-pub rate-bound :
-    (s : Side) (b : ℕ) → ((i : ℕ) → getD (s .prefix) i 0 ≤ b) → ((i : ℕ) → getD (s .cycle) i 0 ≤ b) → (m : ℕ) → rate s m ≤ b
-unfolding rateOf listOf
-rate-bound s b h l m = either (ltb m (length (s .prefix))) (s .prefix) (s .cycle) b (placeOf (s .prefix) (s .cycle) m) (h (placeOf (s .prefix) (s .cycle) m)) (l (placeOf (s .prefix) (s .cycle) m))
 
 module _ (s : Side) (ok : Sound s) where
   -- past the prefix
@@ -79,22 +66,3 @@ module _ (s : Side) (ok : Sound s) where
       ap (total s) (omega arith)
       ∙ one-turn (m + c * length (s .cycle)) (omega arith)
       ∙ omega (arith, turns m c h)
-
-  -- the sum as code computes it past the prefix: whole turns, and a part of one
-  pub total-closed : (m : ℕ) → length (s .prefix) ≤ m
-      → total s m
-      ≡ total s (length (s .prefix)) + (m - length (s .prefix)) / length (s .cycle) * turn s
-      + sum (λ i. getD (s .cycle) i 0) ((m - length (s .prefix)) % length (s .cycle))
-  total-closed m h =
-      let d : ℕ = m - length (s .prefix) in
-      let r : ℕ = d % length (s .cycle) in
-      let q : ℕ = d / length (s .cycle) in
-      let short : r < length (s .cycle) = mod-lt d (ok .some-rate) in
-      let part : total s (length (s .prefix) + r) ≡ total s (length (s .prefix)) + sum (λ i. getD (s .cycle) i 0) r =
-      sum-split (rate s) (length (s .prefix)) r
-      ∙ ap (λ x. total s (length (s .prefix)) + x)
-      (sum-ext (λ i. rate s (length (s .prefix) + i)) (λ i. getD (s .cycle) i 0) r
-      (λ j l. rate-cycle j ∙ ap (λ x. getD (s .cycle) x 0) (mod-eq-of-lt (omega arith)))) in
-      ap (total s) (omega (arith, div-add-mod' d (length (s .cycle))))
-      ∙ turns (length (s .prefix) + r) q (omega arith)
-      ∙ omega (arith, part)

@@ -1,7 +1,7 @@
 -- What a verdict says of the choices of ticks. Assumes nothing.
 use mathlib.Core.Path.{_≡_, refl, sym, subst, _∙_}
 use mathlib.Core.Logic.{_↔_, _⊎_, inl, inr}
-use Prim.Native.Nat.{ℕ, _≤_}
+use Prim.Native.Nat.{_≤_}
 use Rattle.channel.specs.declared.Verdict.{Verdict}
 use Rattle.channel.specs.declared.Verdict.the-variants.{Fine, InitialAboveSize, Unbalanced, WindowTooLong, Underflow, Overflow}
 use Rattle.channel.specs.Side.{Sound}

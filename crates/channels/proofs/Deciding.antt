@@ -1,7 +1,7 @@
 -- The first jobs of a taker decide all. Assumes nothing.
 use mathlib.Core.Path.{_≡_}
 use mathlib.Core.List.{List}
-use Prim.Native.Nat.{ℕ, _*_, _/_, _≤_}
+use Prim.Native.Nat.{ℕ, _/_}
 use native.Mathlib.Nat.{mul-le-mul, lt-div-mul-add}
 use native.Mathlib.Omega.{arith}
 use lib.ListN.{length}
@@ -11,7 +11,7 @@ use Rattle.channels.specs.declared.Pace.{Pace}
 use Rattle.channels.specs.declared.Search.{Search}
 use Rattle.channels.specs.declared.Search as search
 use Rattle.channels.specs.Sides.{sideOf}
-use Rattle.channels.specs.Answers.{Searchable, Finds, Countable, jobsOf, Repeats, Decides}
+use Rattle.channels.specs.Answers.{Searchable, Finds, Countable, Repeats, Decides}
 use Rattle.channels.proofs.Running.{sound}
 
 pub countable :

@@ -3,4 +3,3 @@ pub mod Multiples
 pub mod Running
 pub mod Deciding
 pub mod Weighing
-pub mod Laid

@@ -12,7 +12,7 @@ use Rattle.graph.specs.declared.Task.{Task}
 use Rattle.graph.specs.Memory.{MemoryLink, MemoryRates, view-rates}
 use Rattle.channel.specs.declared.Verdict as verdict
 use Rattle.channel.specs.Side.{Side, turn, span, Short}
-use Rattle.channel.specs.Channel.{Channel, Balanced, Underflows, Overflows}
+use Rattle.channel.specs.Channel.{Channel, Balanced, Underflows}
 use Rattle.channel.specs.Judge.{IsLcm, lcm, TooLong, Means}
 use Rattle.channel.proofs.Least.{lcm-is}
 use Rattle.channel.proofs.Parts.{short-over, over-short}

@@ -1,6 +1,6 @@
 // The judgement of one channel: initial fill, balance, window, underflow, overflow.
 ghost use mathlib.Core.Path.{_≡_};
-ghost use Prim.Native.Nat.{ℕ, _+_, _*_, _-_, _%_, _≤_, _<_, min};
+ghost use Prim.Native.Nat.{_+_, _*_, _-_, _%_, _≤_, _<_, min};
 ghost use lib.Dec.{eqb};
 ghost use lib.ListN.{length};
 ghost use Rattle.channels.specs.Sides.{joinedOf, paceOf, sideOf, joinedAt, Ready, Weighable, turnOf, Turned};

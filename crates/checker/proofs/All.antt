@@ -1,16 +1,16 @@
 -- All tests one behind the other, on a well-formed graph. Assumes nothing.
 use mathlib.Core.Path.{_≡_, refl, sym, ap, subst, _∙_}
-use mathlib.Core.List.{List, [], _++_, map}
-use mathlib.Core.Option.{none, some}
+use mathlib.Core.List.{List, [], _++_}
+use mathlib.Core.Option.{none}
 use Prim.Native.Nat.{ℕ, _≤_}
 use native.Mathlib.Omega.{arith}
-use lib.ListN.{length, take, drop, getD}
+use lib.ListN.{length, take, drop}
 use lib.Seq.{length-take-le, getD-take}
 use Rattle.numbers.specs.Lists.{All}
 use Rattle.reply.specs.declared.Reply.{Reply}
 use Rattle.reply.specs.declared.Reply.the-variants.{Accepted, ShortReport}
 use Rattle.graph.specs.Model.{Graph, count}
-use Rattle.graph.specs.Memory.{Memory, view-link, view}
+use Rattle.graph.specs.Memory.{Memory, view}
 use Rattle.format.specs.Ranges.{RelationRange}
 use Rattle.rules.specs.Given.{Of}
 use Rattle.rules.specs.Stages.{Earliest, Upto}

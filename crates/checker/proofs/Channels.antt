@@ -1,7 +1,7 @@
 -- The tests of the channels, channel by channel. Assumes nothing.
 use mathlib.Core.Path.{_≡_, sym, ap, ap₂, subst, _∙_}
-use mathlib.Core.List.{List, map}
-use mathlib.Core.Option.{Option, none, some}
+use mathlib.Core.List.{List}
+use mathlib.Core.Option.{none, some}
 use Prim.Native.Nat.{ℕ, _≤_, _<_}
 use native.Mathlib.Omega.{arith}
 use lib.ListN.{length, getD, take, length-map, List·getD-map}
@@ -9,16 +9,12 @@ use lib.Seq.{length-take-le, getD-take}
 use Rattle.numbers.specs.Lists.{All}
 use Rattle.numbers.proofs.Lists.{all-at}
 use Rattle.reply.specs.declared.Reply.{Reply}
-use Rattle.reply.specs.Reply.{place}
 use Rattle.graph.specs.declared.Task.{Task}
-use Rattle.graph.specs.Model.{Graph, bare, count, task, link, task-of}
+use Rattle.graph.specs.Model.{Graph, bare, link, task-of}
 use Rattle.graph.specs.Memory.{MemoryLink, MemoryRates, view-link}
-use Rattle.channel.specs.Channel.{Channel}
 use Rattle.channel.specs.Judge.{Means}
 use Rattle.rules.specs.Terms.{window-of, joined, channel}
-use Rattle.rules.specs.Rules.{Refuses}
-use Rattle.rules.specs.Stages.{Earliest, At, In, Upto}
-use Rattle.rules.specs.Check as rules
+use Rattle.rules.specs.Stages.{Earliest, At, Upto}
 use Rattle.rules.proofs.Find.{known, next-finds, place-finds, places-find}
 use Rattle.rules.proofs.Tests.{channel-finds}
 use Rattle.rules.proofs.Given.{task-is, times-at}

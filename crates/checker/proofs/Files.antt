@@ -9,7 +9,7 @@ use Rattle.reply.specs.declared.Reply.the-variants.{ShortReport}
 use Rattle.reply.specs.Reply.{number, place}
 use Rattle.numbers.proofs.Sums.{cases}
 use Rattle.graph.specs.Model.{Graph, count}
-use Rattle.graph.specs.Memory.{Memory, view, laid}
+use Rattle.graph.specs.Memory.{view, laid}
 use Rattle.graph.proofs.Laid.{view-laid}
 use Rattle.format.specs.Reader as files
 use Rattle.format.proofs.Formed.{reads-formed}

@@ -13,7 +13,6 @@ use Rattle.channel.specs.Channel.{Channel}
 use Rattle.channel.specs.Judge.{Means}
 use Rattle.rules.specs.Terms.{window-of, Usable}
 use Rattle.rules.specs.Check as rules
-use Rattle.formed.specs.Formed.{ChannelFormed}
 use Rattle.channels.specs.Sides.{joinedOf}
 use Rattle.checker.specs.declared.Outcome.{Outcome}
 use Rattle.checker.specs.Outcome.{refusal}

@@ -1,7 +1,7 @@
 // The checker: the tests in the order of document 01, and the report.
 ghost use mathlib.Core.Path.{_≡_};
 ghost use mathlib.Core.List.{_++_};
-ghost use Prim.Native.Nat.{ℕ, _≤_};
+ghost use Prim.Native.Nat.{_≤_};
 ghost use lib.ListN.{length, take, drop};
 ghost use Rattle.numbers.specs.Lists.{All};
 ghost use Rattle.format.specs.Ranges.{TaskRange, RelationRange};

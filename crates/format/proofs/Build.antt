@@ -1,4 +1,4 @@
--- The records of a formed graph are good, and make the graph: its file reads qs the graph. Assumes nothing.
+-- The records of a formed graph are good, and make the graph: its file reads as the graph. Assumes nothing.
 use mathlib.Core.Path.{_≡_, refl, ap, sym, subst, _∙_}
 use mathlib.Core.Bool.{cond}
 use mathlib.Core.List.{List, [], _∷_, _++_, map, append-assoc, append-nil}

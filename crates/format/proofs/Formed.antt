@@ -18,7 +18,7 @@ use Rattle.format.specs.Writer.{rates-from, records, bytes, Few, FewRate
 use Rattle.numbers.proofs.Lists.{all-append, all-map, all-yes, yes-all}
 use Rattle.format.proofs.Front.{both, in-yes, yes-in}
 use Rattle.format.proofs.Reading.{Zeros, first-zero-is, is-first-zero}
-use Rattle.format.proofs.Canon.{Below, last, reads-bytes}
+use Rattle.format.proofs.Canon.{Below, last}
 use Rattle.format.proofs.Build.{formed-reads}
 
 -- ---- one record more: what was in range and within its count stays so
@@ -193,10 +193,3 @@ no-file g = (λ h. to h (formed g) refl, λ e file m. false≢true (sym e ∙ ye
     to : ((file : List ℕ) → ¬ Reads file g) → (b : Bool) → formed g ≡ b → b ≡ false
     to h true e = absurd (h (bytes g) (formed-reads g (formed-yes g e)))
     to h false e = refl
-
--- the files that read as a graph: the graph's file, where it is formed
-pub reads-iff : (file : List ℕ) (g : Graph) → Reads file g ↔ ((formed g ≡ true) × (bytes g ≡ file))
-reads-iff file g = (
-  λ m. (yes-formed g (reads-formed file g m), reads-bytes file g m),
-  λ h. subst (λ f. Reads f g) (h .1) (formed-reads g (formed-yes g (h .0))),
-)

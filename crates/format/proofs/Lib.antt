@@ -6,6 +6,5 @@ pub mod Canon
 pub mod Build
 pub mod Formed
 pub mod Size
-pub mod Writing
 pub mod Steps
 pub mod Ranges

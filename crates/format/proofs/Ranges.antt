@@ -8,7 +8,7 @@ use lib.ListN.{length, getD}
 use Rattle.numbers.specs.Lists.{All}
 use Rattle.graph.specs.declared.Task.{Task}
 use Rattle.graph.specs.declared.Relation.{Relation}
-use Rattle.graph.specs.Model.{Rates, Link, Graph, million, max-channels, bare, no-task, no-relation, task, link, relation}
+use Rattle.graph.specs.Model.{Rates, Link, Graph, million, max-channels, bare, no-task, task, link, relation}
 use Rattle.format.specs.Record as rec
 use Rattle.format.specs.Reader.{Holds, signed, ranges, InRange, cycles}
 use Rattle.format.specs.Writer.{head, rates-of, rates-from, records, Few, FewRates, Formed}
@@ -217,7 +217,3 @@ module _ (g : Graph) (F : Formed g) where
   pub link-ranged : (c : ℕ) → c < length (g .channels) → LinkRange (length (g .tasks)) (link g c)
   unfolding link
   link-ranged = all-at (LinkRange (length (g .tasks))) (g .channels) (bare 0 0 0 0) (formed-ranged g F .channels)
-
-  pub relation-ranged : (r : ℕ) → r < length (g .relations) → RelationRange (length (g .tasks)) (relation g r)
-  unfolding relation
-  relation-ranged = all-at (RelationRange (length (g .tasks))) (g .relations) no-relation (formed-ranged g F .relations)

@@ -1,15 +1,14 @@
--- The file of a graph, which graphs have one, and what a writer does. Assumes nothing.
-use mathlib.Core.Path.{_≡_}
-use mathlib.Core.Bool.{Bool, true, false, cond, _&&_}
+-- The file of a graph, and which graphs have one. Assumes nothing.
+use mathlib.Core.Bool.{Bool, true, false, _&&_}
 use mathlib.Core.Option.{Option, none, some}
 use mathlib.Core.List.{List, [], _∷_, _++_, map}
-use Prim.Native.Nat.{ℕ, suc, _≤_, _<_}
+use Prim.Native.Nat.{ℕ, suc, _≤_}
 use lib.Dec.{ltb, leb}
-use lib.ListN.{length, drop}
+use lib.ListN.{length}
 use Rattle.numbers.specs.Lists.{All, all}
 use Rattle.graph.specs.Model.{Rates, Link, Graph, max-tasks, max-channels, max-relations, max-prefix, max-cycle}
 use Rattle.format.specs.Record.{Record, task, channel, rate, relation, encodes}
-use Rattle.format.specs.Reader.{holds, ranges, InRange, cycles, Whole, Reads, first-zero}
+use Rattle.format.specs.Reader.{holds, ranges, InRange, cycles, Whole, first-zero}
 
 -- the records of a graph in the order of a file
 abbrev pub head : Link → Record
@@ -70,21 +69,3 @@ formed g =
     && (all (λ c. few (c .production) && few (c .consumption)) (g .channels)
     && (ltb 0 (length (g .tasks))
     && is-none (first-zero (cycles (g .channels))))))))
-
--- ---- the writer
-
-pub data Wrote : Type 0 where
-  written : ℕ → Wrote
-  unformed : Wrote
-  short : ℕ → Wrote
-
--- What each answer says of the output before and after.
-abbrev pub Writes : Graph → List ℕ → Wrote → List ℕ → Type 0
-Writes g out unformed after = ((file : List ℕ) → ¬ Reads file g) × (after ≡ out)
-Writes g out (short n) after = (file : List ℕ) × Reads file g × (length file ≡ n) × (length out < n) × (after ≡ out)
-Writes g out (written n) after = (file : List ℕ) × Reads file g × (length file ≡ n) × (n ≤ length out) × (after ≡ file ++ drop n out)
-
-unfoldable pub write : Graph → List ℕ → Wrote × List ℕ
-write g out =
-    let n : ℕ = length (bytes g) in
-    cond (formed g) (cond (leb n (length out)) (written n, bytes g ++ drop n out) (short n, out)) (unformed, out)

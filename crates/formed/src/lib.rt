@@ -5,7 +5,7 @@ use graph::Relation;
 use graph::Side;
 use graph::Task;
 ghost use mathlib.Core.Path.{_≡_};
-ghost use Prim.Native.Nat.{ℕ, _≤_, _<_};
+ghost use Prim.Native.Nat.{_≤_, _<_};
 ghost use lib.IntN.{natAbs};
 ghost use Rattle.graph.specs.Model.{million, no-task, no-rates, no-relation};
 ghost use Rattle.graph.specs.Memory.{laid-rates, zero-link};

@@ -1,12 +1,11 @@
 -- Lists laid into memory and read back. Assumes nothing.
 use mathlib.Core.Path.{_≡_, refl, ap, ap₂, sym, _∙_}
 use mathlib.Core.List.{List, [], _∷_, _++_, map, append-assoc}
-use Prim.Native.Nat.{ℕ, zero, suc, _+_, _-_, _≤_, _<_}
-use native.Mathlib.Nat.{add-zero, lt-of-not-le}
+use Prim.Native.Nat.{ℕ, suc, _+_, _-_, _≤_, _<_}
+use native.Mathlib.Nat.{lt-of-not-le}
 use native.Mathlib.Decide.{decLe}
-use native.Mathlib.Numerals.{add-one}
 use native.Mathlib.Omega.{arith}
-use lib.ListN.{length, getD, take, drop, set, replicate, length-append, length-take, length-map, length-replicate, getD-replicate, List·getD-append}
+use lib.ListN.{length, getD, take, set, replicate, length-append, length-take, length-map, length-replicate, getD-replicate, List·getD-append}
 use lib.Seq.{length-take-le, getD-take, ext-getD, take-at, getD-append-add, set-append-seam}
 use Rattle.graph.specs.Model.{Rates, Link, Graph, no-task, no-relation}
 use Rattle.graph.specs.Memory.{view-rates, view-link, view, pad, laid-rates, laid-link, zero-link, laid}
@@ -89,7 +88,3 @@ view-laid g =
       channels = links i;
       relations = pad-take 64 no-relation (g .relations) i;
     }
-
--- so memory tells graphs apart
-pub laid-one : (g h : Graph) → laid g ≡ laid h → g ≡ h
-laid-one g h e = sym (view-laid g) ∙ ap view e ∙ view-laid h

@@ -1,11 +1,11 @@
 -- A graph in memory, and the lists that it stands for. Assumes nothing.
-use mathlib.Core.List.{List, [], _++_, map}
+use mathlib.Core.List.{List, _++_, map}
 use Prim.Native.Nat.{ℕ, _-_}
 use lib.ListN.{length, take, replicate}
 use Rattle.graph.specs.declared.Side as side
 use Rattle.graph.specs.declared.Channel as channel
 use Rattle.graph.specs.declared.Graph as graph
-use Rattle.graph.specs.Model.{Rates, Link, Graph, empty, no-task, no-rates, bare, no-relation}
+use Rattle.graph.specs.Model.{Rates, Link, Graph, empty, no-task, bare, no-relation}
 
 -- the graph's own struct, and those of a channel and a side
 abbrev pub Memory : Type 0

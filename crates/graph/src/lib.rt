@@ -1,7 +1,6 @@
 // A graph in memory: its types, its limits, and the lookup of a job's rate.
 ghost use mathlib.Core.Path.{_≡_};
-ghost use Prim.Native.Nat.{ℕ, _≤_, _<_};
-ghost use lib.ListN.{length};
+ghost use Prim.Native.Nat.{_<_};
 ghost use Rattle.graph.specs.Memory.{emptyMemory};
 ghost use Rattle.graph.specs.Rates.{listOf, placeIn, rateOf, nextPlace};
 

@@ -1,6 +1,6 @@
 -- A search through items has one answer. Assumes nothing.
 use mathlib.Core.Path.{_≡_, refl, ap}
-use Prim.Native.Nat.{ℕ, _<_}
+use Prim.Native.Nat.{ℕ}
 use native.Mathlib.Omega.{arith}
 use Rattle.numbers.proofs.Sums.{cases}
 use Rattle.reply.specs.declared.Found.{Found}

@@ -16,7 +16,7 @@ use Rattle.machine.specs.Machine.{IsResponse}
 use Rattle.reply.specs.declared.Reply.{Reply}
 use Rattle.reply.specs.declared.Reply.the-variants.{Accepted}
 use Rattle.reply.specs.Reply.{number}
-use Rattle.rules.specs.Rules.{Reports, Answers}
+use Rattle.rules.specs.Rules.{Answers}
 use Rattle.rules.specs.Check.{found, given, reply, listed, shown, report}
 use Rattle.rules.proofs.Order.{determined}
 use Rattle.rules.specs.Stages.{Upto, Earliest}

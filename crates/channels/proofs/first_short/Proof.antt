@@ -3,9 +3,8 @@ use mathlib.Core.List.{List}
 use Prim.Native.Nat.{ℕ, _+_, _*_, _-_, _≤_}
 use native.Mathlib.Omega.{arith}
 use borrow.Author.Needs.{needs}
-use lib.ListN.{length, getD}
+use lib.ListN.{getD}
 use Rattle.channel.specs.Side.{Side, ended}
-use Rattle.channels.specs.Sides.{Limited}
 use Rattle.channels.specs.Answers.{Searchable}
 use Rattle.channels.proofs.Running.{At, there, one-tick, at-start, release-small, counted-small, one-more, give, short-at, take}
 use Rattle.channels.proofs.first_short.Statement.{statement}

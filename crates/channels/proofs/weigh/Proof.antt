@@ -1,5 +1,4 @@
 -- `channels::weigh` meets its contract. Assumes nothing.
-use Prim.Native.Nat.{min}
 use native.Mathlib.Omega.{arith}
 use Rattle.channel.specs.Side.{span}
 use Rattle.channel.specs.Channel.{Channel, Balanced}

@@ -6,7 +6,7 @@ use lib.ListN.{length, getD}
 use borrow.Author.Needs.{needs}
 use borrow.Author.Count.{below-more}
 use Rattle.formed.proofs.Parts.{no-link}
-use Rattle.checker.specs.declared.Outcome.the-variants.{Passed, Refused}
+use Rattle.checker.specs.declared.Outcome.the-variants.{Passed}
 use Rattle.checker.specs.Outcome.{Behind}
 use Rattle.checker.specs.Channels.{Tells, Made}
 use Rattle.checker.proofs.Channels.{formed-at, spoilt, fine}

@@ -1,5 +1,5 @@
 -- `checker::check_file` meets its contract: the reader's refusal, or the judgement of the graph that it read. Assumes nothing.
-use mathlib.Core.Path.{_≡_, sym, ap, _∙_}
+use mathlib.Core.Path.{sym, ap, _∙_}
 use denote.Ref.{now}
 use borrow.Author.Needs.{needs}
 use Rattle.reply.specs.declared.Numbers.{Numbers}

@@ -1,11 +1,10 @@
 -- `checker::fill` meets its contract: a turn copies one figure more. Assumes nothing.
-use native.Mathlib.Nat.{le-antisymm}
 use borrow.Author.Needs.{needs}
 use native.Mathlib.Omega.{arith}
-use mathlib.Core.Path.{_≡_, refl, _∙_, ap, sym}
-use mathlib.Core.List.{List, _++_}
-use Prim.Native.Nat.{ℕ, _≤_, _<_, _-_, _+_}
-use lib.ListN.{length, take, drop, set, getD, length-set}
+use mathlib.Core.Path.{_≡_, _∙_, ap}
+use mathlib.Core.List.{_++_}
+use Prim.Native.Nat.{_≤_, _-_, _+_}
+use lib.ListN.{length, take, drop, set, getD}
 use Rattle.checker.proofs.Copy.{turn}
 use Rattle.checker.proofs.fill.Statement.{statement}
 use Rattle.checker.proofs.fill.Tie as tie

@@ -1,11 +1,9 @@
 -- `checker::time_tests` meets its contract. Assumes nothing.
 use mathlib.Core.Path.{_≡_, subst}
-use Prim.Native.Nat.{ℕ, _≤_}
 use native.Mathlib.Omega.{arith}
-use lib.ListN.{length, take}
+use lib.ListN.{length}
 use borrow.Author.Needs.{needs}
 use Rattle.reply.specs.Found.{Finds}
-use Rattle.rules.specs.Given.{Of}
 use Rattle.rules.specs.Rules.{Misses}
 use Rattle.checker.proofs.Stages.{late, heavy, light, in-time}
 use Rattle.checker.proofs.time_tests.Statement.{statement}

@@ -3,8 +3,6 @@ use Rattle.reply.specs.Reply.{numbered}
 use borrow.Author.Needs.{needs}
 use Rattle.reply.proofs.numbers_of.Statement.{statement}
 use Rattle.reply.proofs.numbers_of.Tie as tie
-use Rattle.reply.proofs.numbers_of.Reads as reads
-use Rattle.reply.proofs.numbers_of.Lts as lts
 
 -- src/lib.rt:46:27
 enum-known-reply : tie.Need-enum-known-reply
