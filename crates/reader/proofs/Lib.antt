@@ -1,9 +1,3 @@
-pub mod Table
-pub mod Fields
-pub mod Signed
-pub mod Ranges
-pub mod Fronts
-pub mod Places
 pub mod Growth
 pub mod Loop
 pub mod Runs

@@ -16,14 +16,14 @@ use Rattle.format.specs.Record.{Kind, kind-of, size, Record, kind, task, relati
 use Rattle.format.specs.Reader.{add, State, start, step, Bytes, ranges, InRange, count, limit, Good, Test, full, stopped, Answers}
 use Rattle.format.proofs.Records.{kind-decode}
 use Rattle.format.proofs.Steps.{Leads, leads-start, leads-step, leads-stop, is-unknown, is-cut, is-down, is-range, is-full}
-use Rattle.reader.specs.declared.Head.{Head}
-use Rattle.reader.specs.declared.Entry.{Entry}
-use Rattle.reader.specs.declared.Test.{Test as Named}
-use Rattle.reader.specs.declared.Test.the-variants.{Unknown, Cut, Down, Range, Full}
-use Rattle.reader.specs.declared.Front.{Front}
-use Rattle.reader.specs.declared.Front.the-variants.{Task, Channel, Rate, Relation, Stopped}
-use Rattle.reader.specs.Heads.{headed, entered}
-use Rattle.reader.specs.Fronts.{Counts, Judges, TellsOf, Tells}
+use Rattle.record.specs.declared.Head.{Head}
+use Rattle.record.specs.declared.Entry.{Entry}
+use Rattle.record.specs.declared.Test.{Test as Named}
+use Rattle.record.specs.declared.Test.the-variants.{Unknown, Cut, Down, Range, Full}
+use Rattle.record.specs.declared.Front.{Front}
+use Rattle.record.specs.declared.Front.the-variants.{Task, Channel, Rate, Relation, Stopped}
+use Rattle.record.specs.Heads.{headed, entered}
+use Rattle.record.specs.Fronts.{Counts, Judges, TellsOf, Tells}
 use Rattle.reader.specs.Records.{Roomy, Stands, stored, test-of}
 use Rattle.reader.proofs.Growth.{change-set}
 

@@ -15,10 +15,10 @@ use Rattle.graph.proofs.Stores.{store-prefix, store-cycle}
 use Rattle.format.specs.Growth.{part-of, list-of, side-of, push-part, push}
 use Rattle.format.specs.Record.{digits, rank}
 use Rattle.format.specs.Reader.{State, Bytes, limit}
-use Rattle.reader.specs.declared.Entry.{Entry}
-use Rattle.reader.specs.declared.Front.the-variants.{Rate}
-use Rattle.reader.specs.Heads.{entered}
-use Rattle.reader.specs.Fronts.{Counts, Tells}
+use Rattle.record.specs.declared.Entry.{Entry}
+use Rattle.record.specs.declared.Front.the-variants.{Rate}
+use Rattle.record.specs.Heads.{entered}
+use Rattle.record.specs.Fronts.{Counts, Tells}
 use Rattle.reader.specs.Records.{with-sides, Roomy, SameList, Stands, stored, Stood, Fills}
 use Rattle.reader.proofs.Growth.{push-side}
 use Rattle.reader.proofs.Loop.{stands-counts, rate-inside, rate-here, rate-next}

@@ -1,4 +1,2 @@
-pub mod Heads
-pub mod Fronts
 pub mod Records
 pub mod Reading

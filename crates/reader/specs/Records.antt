@@ -11,13 +11,13 @@ use Rattle.format.specs.Growth.{with-rates, list-of}
 use Rattle.format.specs.Record.{rank}
 use Rattle.format.proofs.Steps.{Leads}
 use Rattle.format.specs.Reader.{State, Test, unknown, cut, down, range, full, limit, Answer, stopped, Ends, Answers}
-use Rattle.reader.specs.declared.Test.{Test as Named}
-use Rattle.reader.specs.declared.Test.the-variants.{Unknown, Cut, Down, Range, Full}
-use Rattle.reader.specs.declared.Entry.{Entry}
+use Rattle.record.specs.declared.Test.{Test as Named}
+use Rattle.record.specs.declared.Test.the-variants.{Unknown, Cut, Down, Range, Full}
+use Rattle.record.specs.declared.Entry.{Entry}
 use Rattle.reader.specs.declared.End.{End}
 use Rattle.reader.specs.declared.End.the-variants.{Whole, Stopped}
 use Rattle.reader.specs.declared.Run.{Run}
-use Rattle.reader.specs.Heads.{entered}
+use Rattle.record.specs.Heads.{entered}
 
 -- the part has a place for one entry more
 abbrev pub Room : MemoryRates → ℕ → Type 0

@@ -9,9 +9,9 @@ use Rattle.format.proofs.Steps.{leads-end, bytes-of}
 use Rattle.format.specs.Record.{rank}
 use Rattle.format.specs.Reader.{Bytes}
 use Rattle.reader.specs.Records.{Stood, Stands}
-use Rattle.reader.specs.declared.Front.the-variants.{Task, Channel, Rate, Relation, Stopped}
-use Rattle.reader.specs.Fronts.{Tells}
-use Rattle.reader.proofs.Fronts.{yes, no}
+use Rattle.record.specs.declared.Front.the-variants.{Task, Channel, Rate, Relation, Stopped}
+use Rattle.record.specs.Fronts.{Tells}
+use Rattle.record.proofs.Fronts.{yes, no}
 use Rattle.reader.proofs.Loop.{stands-start, stands-counts, stands-stop, task-next, channel-next, relation-next, rate-inside, rate-here, rate-full, rate-next}
 use Rattle.reader.proofs.records.Statement.{statement}
 use Rattle.reader.proofs.records.Tie as tie

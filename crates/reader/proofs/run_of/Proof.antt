@@ -8,10 +8,10 @@ use Rattle.graph.specs.Model.{Link}
 use Rattle.graph.specs.Memory.{Memory}
 use Rattle.format.specs.Reader.{Bytes}
 use Rattle.format.proofs.Steps.{bytes-of}
-use Rattle.reader.specs.declared.Front.the-variants.{Rate}
-use Rattle.reader.specs.Fronts.{Tells}
+use Rattle.record.specs.declared.Front.the-variants.{Rate}
+use Rattle.record.specs.Fronts.{Tells}
 use Rattle.reader.specs.Records.{SameList, Fills}
-use Rattle.reader.proofs.Fronts.{said}
+use Rattle.record.proofs.Fronts.{said}
 use Rattle.reader.proofs.Runs.{fills-counts, fills-prefix, fills-cycle}
 use Rattle.reader.proofs.run_of.Statement.{statement}
 use Rattle.reader.proofs.run_of.Tie as tie
