@@ -17,7 +17,8 @@ use Rattle.rules.specs.Execution.{Execution, Kept}
 use Rattle.rules.proofs.Kept.{kept}
 use Rattle.rules.proofs.Runs.{execution}
 use Rattle.rules.proofs.Usable.{usable}
-use Rattle.formed.specs.Formed.{WellFormed}
+use Rattle.formed.specs.Formed.{ReadsAs}
+use Rattle.formed.proofs.Exact.{reads-well}
 use Rattle.checker.specs.Check.{Written, ChecksFile, MemoryAnswers, judged, ChecksGraph}
 
 -- the figures in the first places of the report
@@ -40,13 +41,13 @@ pub graph-kept : (m : Memory) (before after : List ℕ) (n : ℕ) → ChecksGrap
 graph-kept m before after n c e = go (c .answers)
   where
     go : MemoryAnswers m (length before) (Accepted n) (c .figures) → Kept (view m) after e
-    go (judged w a) =
+    go (judged file w a) =
         in-report (view m) (c .figures) before after e (a .reports .size) (c .report)
-        (kept (view m) (usable (view m) (w .formed)) (length before) n (c .figures) a e)
+        (kept (view m) (usable (view m) (reads-well file m w .formed)) (length before) n (c .figures) a e)
 
 -- It is not empty: a file that is read has an execution for every choice of running times from 1 to each task's cost.
 pub file-runs : (file : List ℕ) (g : Graph) → files.Reads file g → (needs : ℕ → ℕ → ℕ) → ((i k : ℕ) → i < count g → (1 ≤ needs i k) × (needs i k ≤ cost g i)) → (e : Execution g) × (e .needs ≡ needs)
 file-runs file g r needs h = execution g (usable g (reads-formed file g r)) needs h
 
-pub graph-runs : (m : Memory) → WellFormed m → (needs : ℕ → ℕ → ℕ) → ((i k : ℕ) → i < count (view m) → (1 ≤ needs i k) × (needs i k ≤ cost (view m) i)) → (e : Execution (view m)) × (e .needs ≡ needs)
-graph-runs m w needs h = execution (view m) (usable (view m) (w .formed)) needs h
+pub graph-runs : (file : List ℕ) (m : Memory) → ReadsAs file m → (needs : ℕ → ℕ → ℕ) → ((i k : ℕ) → i < count (view m) → (1 ≤ needs i k) × (needs i k ≤ cost (view m) i)) → (e : Execution (view m)) × (e .needs ≡ needs)
+graph-runs file m r needs h = execution (view m) (usable (view m) (reads-well file m r .formed)) needs h

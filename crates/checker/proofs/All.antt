@@ -26,7 +26,9 @@ use Rattle.checker.specs.declared.Timing.{Timing}
 use Rattle.checker.specs.declared.Outcome.{Outcome}
 use Rattle.checker.specs.declared.Outcome.the-variants.{Passed, Refused}
 use Rattle.checker.specs.Outcome.{refusal, Behind, Times, Tested}
-use Rattle.checker.specs.Check.{Judges}
+use Rattle.format.specs.Writer.{bytes}
+use Rattle.formed.proofs.Exact.{well-reads}
+use Rattle.checker.specs.Check.{Judges, MemoryAnswers, judged}
 use Rattle.checker.specs.Channels.{Sound, Made}
 
 -- ---- what a well-formed graph hands to the tests
@@ -129,3 +131,7 @@ module _ (m : Memory) (w : WellFormed m) (before : List ℕ) where
               (λ i l. rw (getD-take (m .ntasks) (t .figures) i 0 (omega (arith, counted))) (times i l)));
           report = p ∙ ap (λ k. take (m .ntasks) (t .figures) ++ drop k before) (sym n);
         }
+
+-- a well-formed graph has a file
+pub well-judged : {m : Memory} {room : ℕ} {r : Reply} {l : List ℕ} → WellFormed m → Answers (view m) room r l → MemoryAnswers m room r l
+well-judged {m} w a = judged (bytes (view m)) (well-reads m w) a

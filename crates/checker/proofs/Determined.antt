@@ -20,9 +20,9 @@ file-check-determined file before r s after after′ x y =
 
 memory-determined : (g : Memory) (room : ℕ) (r s : Reply) (l m : List ℕ) → MemoryAnswers g room r l → MemoryAnswers g room s m → (r ≡ s) × (l ≡ m)
 memory-determined g room r s l m (no-file a) (no-file b) = (refl, refl)
-memory-determined g room r s l m (no-file a) (judged w b) = absurd (a w)
-memory-determined g room r s l m (judged w a) (no-file b) = absurd (b w)
-memory-determined g room r s l m (judged w a) (judged v b) = answer-determined (view g) room r s l m a b
+memory-determined g room r s l m (no-file a) (judged file w b) = absurd (a file w)
+memory-determined g room r s l m (judged file w a) (no-file b) = absurd (b file w)
+memory-determined g room r s l m (judged file w a) (judged other v b) = answer-determined (view g) room r s l m a b
 
 pub graph-check-determined : (g : Memory) (before : List ℕ) (r s : Reply) (after after′ : List ℕ) → ChecksGraph g before r after → ChecksGraph g before s after′ → (r ≡ s) × (after ≡ after′)
 graph-check-determined g before r s after after′ x y =

@@ -7,7 +7,7 @@ use Rattle.reply.specs.declared.Reply.{Reply}
 use Rattle.reply.specs.declared.Reply.the-variants.{NoFile}
 use Rattle.graph.specs.Model.{Graph}
 use Rattle.graph.specs.Memory.{Memory, view}
-use Rattle.formed.specs.Formed.{WellFormed}
+use Rattle.formed.specs.Formed.{ReadsAs}
 use Rattle.rules.specs.Rules.{Answers}
 use Rattle.rules.specs.Files.{FileAnswers}
 
@@ -29,8 +29,8 @@ pub record ChecksFile (file before : List ℕ) (r : Reply) (after : List ℕ) : 
 
 -- The answer to a graph in memory: 18 where no file reads as it, and otherwise the answer to its lists.
 pub data MemoryAnswers (g : Memory) (room : ℕ) : Reply → List ℕ → Type 0 where
-  no-file : ¬ WellFormed g → MemoryAnswers g room NoFile []
-  judged : {r : Reply} {l : List ℕ} → WellFormed g → Answers (view g) room r l → MemoryAnswers g room r l
+  no-file : ((file : List ℕ) → ¬ ReadsAs file g) → MemoryAnswers g room NoFile []
+  judged : {r : Reply} {l : List ℕ} (file : List ℕ) → ReadsAs file g → Answers (view g) room r l → MemoryAnswers g room r l
 
 -- A graph in memory and a report before: the reply to the graph, and the report after.
 pub record ChecksGraph (g : Memory) (before : List ℕ) (r : Reply) (after : List ℕ) : Type 0 where

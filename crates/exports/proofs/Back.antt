@@ -15,7 +15,8 @@ use Rattle.format.specs.Writer.{Formed}
 use Rattle.formed.specs.Formed.{WellFormed}
 use Rattle.reader.specs.declared.Reading.{Reading}
 use Rattle.reader.specs.Reading.{Gives}
-use Rattle.writer.specs.Writing.{ReadsAs, no-file, short, wrote}
+use Rattle.formed.specs.Formed.{ReadsAs}
+use Rattle.writer.specs.Writing.{no-file, short, wrote}
 use Rattle.writer.proofs.Writing.{one-file}
 use Rattle.checker.proofs.Files.{well}
 use Rattle.exports.specs.Exports.{Rewrites, refused, passed, Rewritten, Read}

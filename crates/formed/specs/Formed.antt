@@ -5,7 +5,9 @@ use mathlib.Core.List.{List}
 use Prim.Native.Nat.{ℕ, _≤_, _<_}
 use lib.ListN.{length, take, replicate}
 use Rattle.numbers.specs.Lists.{All}
+use Rattle.graph.specs.Model.{Graph}
 use Rattle.graph.specs.Memory.{Memory, MemoryLink, MemoryRates, view, view-link, view-rates, pad, laid, laid-link, laid-rates}
+use Rattle.format.specs.Reader.{Reads}
 use Rattle.format.specs.Writer.{Formed}
 use Rattle.format.specs.Ranges.{RatesRange, LinkRange}
 
@@ -13,6 +15,12 @@ use Rattle.format.specs.Ranges.{RatesRange, LinkRange}
 pub record WellFormed (g : Memory) : Type 0 where
   pub padded : g ≡ laid (view g)
   pub formed : Formed (view g)
+
+-- the file reads as this graph in memory
+pub record ReadsAs (file : List ℕ) (g : Memory) : Type 0 where
+  pub model : Graph
+  pub reads : Reads file model
+  pub same : g ≡ laid model
 
 -- a test's answer: true exactly where the fact holds
 pub record Tells (P : Type 0) (answer : Bool) : Type 0 where

@@ -11,14 +11,14 @@ use Rattle.reply.specs.declared.Reply.the-variants.{Accepted, NoFile, ShortOutp
 use Rattle.graph.specs.Memory.{Memory, view, laid}
 use Rattle.graph.proofs.Laid.{view-laid}
 use Rattle.format.specs.Reader.{taken}
-use Rattle.format.specs.Writer.{bytes, Formed}
+use Rattle.format.specs.Writer.{bytes}
 use Rattle.format.proofs.Reading.{one-answer}
 use Rattle.format.proofs.Canon.{reads-bytes}
-use Rattle.format.proofs.Build.{formed-reads}
-use Rattle.format.proofs.Formed.{reads-formed}
 use Rattle.format.proofs.Size.{taken-length}
 use Rattle.formed.specs.Formed.{WellFormed}
-use Rattle.writer.specs.Writing.{ReadsAs, Writes, no-file, short, wrote}
+use Rattle.formed.specs.Formed.{ReadsAs}
+use Rattle.formed.proofs.Exact.{reads-well, well-reads}
+use Rattle.writer.specs.Writing.{Writes, no-file, short, wrote}
 use Rattle.writer.specs.Parts.{Puts}
 use Rattle.writer.proofs.Put.{put-front}
 
@@ -27,16 +27,6 @@ use Rattle.writer.proofs.Put.{put-front}
 -- its model is its view
 model-is : {file : List ℕ} {g : Memory} (r : ReadsAs file g) → view g ≡ r .model
 model-is r = ap view (r .same) ∙ view-laid (r .model)
-
-pub reads-well : (file : List ℕ) (g : Memory) → ReadsAs file g → WellFormed g
-reads-well file g r =
-    record {
-      padded = r .same ∙ ap laid (sym (model-is r));
-      formed = subst Formed (sym (model-is r)) (reads-formed file (r .model) (r .reads));
-    }
-
-pub well-reads : (g : Memory) → WellFormed g → ReadsAs (bytes (view g)) g
-well-reads g w = record { model = view g; reads = formed-reads (view g) (w .formed); same = w .padded }
 
 -- it has one file
 pub the-file : {file : List ℕ} {g : Memory} → ReadsAs file g → file ≡ bytes (view g)

@@ -2,7 +2,9 @@
 use mathlib.Core.Path.{refl}
 use mathlib.Core.List.{[]}
 use borrow.Author.Needs.{needs}
-use Rattle.checker.specs.Check.{no-file, judged}
+use Rattle.formed.proofs.Exact.{reads-well}
+use Rattle.checker.specs.Check.{no-file}
+use Rattle.checker.proofs.All.{well-judged}
 use Rattle.checker.proofs.check_graph.Statement.{statement}
 use Rattle.checker.proofs.check_graph.Tie as tie
 
@@ -18,10 +20,10 @@ same-length c = search needs
 returns : tie.Need-returns
 returns c =
     let j = c .before .before .judge .ensures in
-    record { figures = j .figures; answers = judged (c .before .before .before .before .before .formed .ensures .yes (c .before .before .before .before .if1 .taken)) (j .answers); report = j .report }
+    record { figures = j .figures; answers = well-judged (c .before .before .before .before .before .formed .ensures .yes (c .before .before .before .before .if1 .taken)) (j .answers); report = j .report }
 
 returns-2 : tie.Need-returns-2
-returns-2 c = record { figures = []; answers = no-file (c .before .formed .ensures .no (c .if1 .left)); report = refl }
+returns-2 c = record { figures = []; answers = no-file (λ file r. c .before .formed .ensures .no (c .if1 .left) (reads-well file _ r)); report = refl }
 
 pub check-graph-spec : {M : Type 1} → statement M
 check-graph-spec =
