@@ -1,7 +1,7 @@
 -- The state of a search for the taker's first short job, and its steps. Assumes nothing.
 use mathlib.Core.Path.{_≡_, sym, ap, _∙_}
 use mathlib.Core.List.{List}
-use Prim.Native.Nat.{ℕ, suc, _+_, _*_, _≤_, _<_, zero-le}
+use Prim.Native.Nat.{ℕ, suc, _+_, _*_, _-_, _≤_, _<_, zero-le}
 use native.Mathlib.Nat.{mul-le-mul, mul-le-mul-right}
 use native.Mathlib.Numerals.{add-one}
 use native.Mathlib.Omega.{arith}
@@ -17,17 +17,15 @@ use Rattle.channels.specs.Sides.{Limited}
 use Rattle.channels.specs.Answers.{Searchable}
 
 -- k jobs of the taker are tested, and q of the giver counted
-pub record At (t g : Side) (stock jobs release end have need tplace gplace k q : ℕ) : Type 0 where
+pub record At (t g : Side) (stock jobs release end spare tplace gplace k q : ℕ) : Type 0 where
   pub within : k ≤ jobs
   pub released : release ≡ side.release t k
   pub ends : end ≡ side.end g q
-  pub has : have ≡ stock + total g q
-  pub wants : need ≡ total t k
+  pub balance : spare + total t k ≡ stock + total g q
   pub taker-place : tplace ≡ placeOf (t .prefix) (t .cycle) k
   pub giver-place : gplace ≡ placeOf (g .prefix) (g .cycle) q
   pub over : q ≤ ended g release
-  pub have-most : have ≤ stock + 65535 * q
-  pub need-most : need ≤ 65535 * k
+  pub spare-most : spare ≤ stock + 65535 * q
   pub none : (j : ℕ) → j < k → ¬ Short t g stock j
 
 pub sound : {s : Side} → Limited s → Sound s
@@ -70,23 +68,21 @@ pub there : (s : Side) → Limited s → (m place : ℕ) (list : List ℕ) → p
 there s ok m place list p l = rw (p, l) (place-there (s .prefix) (s .cycle) m (ok .some-rate))
 
 module _ (t g : Side) (stock jobs : ℕ) (ok : Searchable t g stock jobs) where
-  pub at-start : At t g stock jobs (t .offset) (g .offset + g .window) stock 0 0 0 0 0
+  pub at-start : At t g stock jobs (t .offset) (g .offset + g .window) stock 0 0 0 0
   at-start =
       record {
         within = zero-le;
         released = omega arith;
         ends = omega arith;
-        has = omega (arith, sum-zero (rate g));
-        wants = omega (arith, sum-zero (rate t));
+        balance = omega (arith, sum-zero (rate g), sum-zero (rate t));
         taker-place = sym (place-first (t .prefix) (t .cycle));
         giver-place = sym (place-first (g .prefix) (g .cycle));
         over = zero-le;
-        have-most = omega arith;
-        need-most = omega arith;
+        spare-most = omega arith;
         none = λ j h. absurd (omega arith);
       }
 
-  module _ (release end have need tplace gplace k q : ℕ) (a : At t g stock jobs release end have need tplace gplace k q) where
+  module _ (release end spare tplace gplace k q : ℕ) (a : At t g stock jobs release end spare tplace gplace k q) where
     pub release-small : release ≤ 2_179_683_000_000
     release-small = omega (arith, a .released, mul-le-mul {n₁ = k} {m₁ = t .period} {n₂ = 2_179_682} {m₂ = 1_000_000} (omega (arith, a .within, ok .jobs-most)) (ok .taker .period-most), ok .taker .offset-most)
 
@@ -102,49 +98,45 @@ module _ (t g : Side) (stock jobs : ℕ) (ok : Searchable t g stock jobs) where
         )
 
     pub give : (list : List ℕ) → list ≡ listOf (g .prefix) (g .cycle) q → getD list gplace 0 ≤ 65535 → end ≤ release
-        → At t g stock jobs release (end + g .period) (have + getD list gplace 0) need tplace (nextPlace (length list) gplace) k (q + 1)
+        → At t g stock jobs release (end + g .period) (spare + getD list gplace 0) tplace (nextPlace (length list) gplace) k (q + 1)
     give list l few h =
         record {
           within = a .within;
           released = a .released;
           ends = omega (arith, a .ends);
-          has = omega (arith, a .has, total-next g q gplace list (a .giver-place) l);
-          wants = a .wants;
+          balance = omega (arith, a .balance, total-next g q gplace list (a .giver-place) l);
           taker-place = a .taker-place;
           giver-place = next-is g q gplace list (a .giver-place) l;
           over = omega (arith, ended-iff g (sound (ok .giver)) q release .1 (omega (arith, a .ends)));
-          have-most = omega (arith, a .have-most);
-          need-most = a .need-most;
+          spare-most = omega (arith, a .spare-most);
           none = a .none;
         }
 
-    module _ (list : List ℕ) (l : list ≡ listOf (t .prefix) (t .cycle) k) (few : getD list tplace 0 ≤ 65535) (h : release < end) where
+    module _ (list : List ℕ) (l : list ≡ listOf (t .prefix) (t .cycle) k) (h : release < end) where
       -- what job k can count on, and what it wants
-      has-now : stock + total g (ended g (side.release t k)) ≡ have
+      has-now : stock + total g (ended g (side.release t k)) ≡ spare + total t k
       has-now =
           let e : ended g release ≡ q = ended-is g (sound (ok .giver)) q release (a .over) (omega (arith, a .ends)) in
-          omega (arith, a .has, ap (total g) e, ap (λ x. total g (ended g x)) (a .released))
+          omega (arith, a .balance, ap (total g) e, ap (λ x. total g (ended g x)) (a .released))
 
-      wants-now : total t (suc k) ≡ need + getD list tplace 0
-      wants-now = omega (arith, a .wants, total-next t k tplace list (a .taker-place) l, ap (total t) (add-one k))
+      wants-now : total t (suc k) ≡ total t k + getD list tplace 0
+      wants-now = omega (arith, total-next t k tplace list (a .taker-place) l, ap (total t) (add-one k))
 
-      pub short-at : have < need + getD list tplace 0 → First (Short t g stock) k
+      pub short-at : spare < getD list tplace 0 → First (Short t g stock) k
       short-at s = (omega (arith, has-now, wants-now), a .none)
 
-      pub take : k < jobs → need + getD list tplace 0 ≤ have
-          → At t g stock jobs (release + t .period) end have (need + getD list tplace 0) (nextPlace (length list) tplace) gplace (k + 1) q
+      pub take : k < jobs → getD list tplace 0 ≤ spare
+          → At t g stock jobs (release + t .period) end (spare - getD list tplace 0) (nextPlace (length list) tplace) gplace (k + 1) q
       take less enough =
           record {
             within = omega arith;
             released = omega (arith, a .released);
             ends = a .ends;
-            has = a .has;
-            wants = omega (arith, wants-now, ap (total t) (add-one k));
+            balance = omega (arith, a .balance, wants-now, ap (total t) (add-one k));
             taker-place = next-is t k tplace list (a .taker-place) l;
             giver-place = a .giver-place;
             over = omega (arith, a .over, ended-mono g (sound (ok .giver)) release (release + t .period) (omega arith));
-            have-most = a .have-most;
-            need-most = omega (arith, a .need-most);
+            spare-most = omega (arith, a .spare-most);
             none = λ j less-next.
                 extend (λ i. ¬ Short t g stock i) k (a .none) (λ s. omega (arith, has-now, wants-now)) j (omega arith);
           }

@@ -101,7 +101,7 @@ fn measure(a: u64, b: u64, least: u64) -> Window
     Window::TooLong
 }
 
-// The first of the taker's jobs that is short. A turn goes by one job of the giver that has ended by then, or by one of the taker; both totals, both moments and both places are kept running.
+// The first of the taker's jobs that is short. A turn goes by one job of the giver that has ended by then, or by one of the taker; what is spare, both moments and both places are kept running.
 fn first_short<'a>(
     tprefix: &'a [u16],
     tcycle: &'a [u16],
@@ -122,8 +122,7 @@ fn first_short<'a>(
     let gperiod = giver.period;
     let mut release = start;
     let mut end = offset + window;
-    let mut have = stock;
-    let mut need: u64 = 0;
+    let mut spare = stock;
     let mut tplace: usize = 0;
     let mut gplace: usize = 0;
     let mut k: u64 = 0;
@@ -131,16 +130,17 @@ fn first_short<'a>(
     while k < jobs {
         if end <= release {
             let list = list_at(gprefix, gcycle, q);
-            have += wide(list[gplace]);
+            spare += wide(list[gplace]);
             gplace = next_place(list.len(), gplace);
             q += 1;
             end += gperiod;
         } else {
             let list = list_at(tprefix, tcycle, k);
-            need += wide(list[tplace]);
-            if have < need {
+            let rate = wide(list[tplace]);
+            if spare < rate {
                 return Search::Short { job: k };
             }
+            spare -= rate;
             tplace = next_place(list.len(), tplace);
             k += 1;
             release += tperiod;

@@ -18,11 +18,11 @@ abbrev gives : ℕ → ℕ → ℕ → List ℕ → List ℕ → Side
 gives offset window period prefix cycle = record { period = period; offset = offset; window = window; prefix = prefix; cycle = cycle }
 
 abbrev Inv-loop : tie.InvT-loop
-Inv-loop tprefix tcycle gprefix gcycle stock jobs start tperiod offset window gperiod release₀ end₀ have₀ need₀ tplace₀ gplace₀ k₀ q₀ release end have need tplace gplace k q =
-    At (takes start tperiod tprefix tcycle) (gives offset window gperiod gprefix gcycle) stock jobs release end have need tplace gplace k q
+Inv-loop tprefix tcycle gprefix gcycle stock jobs start tperiod offset window gperiod release₀ end₀ spare₀ tplace₀ gplace₀ k₀ q₀ release end spare tplace gplace k q =
+    At (takes start tperiod tprefix tcycle) (gives offset window gperiod gprefix gcycle) stock jobs release end spare tplace gplace k q
 
 abbrev μ-loop : tie.MeasureT-loop
-μ-loop tprefix tcycle gprefix gcycle stock jobs start tperiod offset window gperiod release₀ end₀ have₀ need₀ tplace₀ gplace₀ k₀ q₀ release end have need tplace gplace k q =
+μ-loop tprefix tcycle gprefix gcycle stock jobs start tperiod offset window gperiod release₀ end₀ spare₀ tplace₀ gplace₀ k₀ q₀ release end spare tplace gplace k q =
     (jobs - k) + (ended (gives offset window gperiod gprefix gcycle) (start + jobs * tperiod) - q)
 
 add-end : tie.Need-add-end Inv-loop μ-loop
@@ -39,7 +39,7 @@ abbrev State : (c : tie.At-loop Inv-loop μ-loop) → Type 0
 State c =
     let a = c .before .before .before .before .before .args in
     let l = c .loop in
-    At (taker c) (giver c) (a .stock) (a .jobs) (l .release) (l .end) (l .have) (l .need) (l .tplace) (l .gplace) (l .k) (l .q)
+    At (taker c) (giver c) (a .stock) (a .jobs) (l .release) (l .end) (l .spare) (l .tplace) (l .gplace) (l .k) (l .q)
 
 state : (c : tie.At-loop Inv-loop μ-loop) → State c
 state c = c .loop .inv
@@ -53,8 +53,8 @@ fit c = one-tick (c .before .before .before .before .before .pre)
 small : (c : tie.At-loop Inv-loop μ-loop) → (c .loop .release ≤ 2_179_683_000_000) × (c .loop .q ≤ 2_179_683_000_000)
 small c =
     let l = c .loop in (
-      release-small _ _ _ _ (fit c) (l .release) (l .end) (l .have) (l .need) (l .tplace) (l .gplace) (l .k) (l .q) (state c),
-      counted-small _ _ _ _ (fit c) (l .release) (l .end) (l .have) (l .need) (l .tplace) (l .gplace) (l .k) (l .q) (state c),
+      release-small _ _ _ _ (fit c) (l .release) (l .end) (l .spare) (l .tplace) (l .gplace) (l .k) (l .q) (state c),
+      counted-small _ _ _ _ (fit c) (l .release) (l .end) (l .spare) (l .tplace) (l .gplace) (l .k) (l .q) (state c),
     )
 
 loop-holds : tie.Need-loop-holds Inv-loop μ-loop
@@ -76,10 +76,10 @@ shared-slice-read-wide c =
 wide-requires : tie.Need-wide-requires Inv-loop μ-loop
 wide-requires c κs = search needs
 
-add-have : tie.Need-add-have Inv-loop μ-loop
-add-have c =
+add-spare : tie.Need-add-spare Inv-loop μ-loop
+add-spare c =
     let m = c .before .before .before .before .before in
-    omega (arith, small m .1, state m .have-most, c .wide .ensures, c .before .shared-slice-known5 .given (m .loop .gplace))
+    omega (arith, small m .1, state m .spare-most, c .wide .ensures, c .before .shared-slice-known5 .given (m .loop .gplace))
 
 next-place-requires : tie.Need-next-place-requires Inv-loop μ-loop
 next-place-requires c κs =
@@ -102,7 +102,7 @@ loop-less c =
     let l = m .loop in
     omega (
       arith,
-      one-more _ _ _ _ (fit m) (l .release) (l .end) (l .have) (l .need) (l .tplace) (l .gplace) (l .k) (l .q) (state m) (c .before .before .before .before .if1 .taken),
+      one-more _ _ _ _ (fit m) (l .release) (l .end) (l .spare) (l .tplace) (l .gplace) (l .k) (l .q) (state m) (c .before .before .before .before .if1 .taken),
     )
 
 loop-again : tie.Need-loop-again Inv-loop μ-loop
@@ -111,7 +111,7 @@ loop-again c =
     let l = m .loop in
     let at = c .before .before .before .list-at in
     rw (c .next-place .ensures, c .before .wide .ensures)
-    (give _ _ _ _ (fit m) (l .release) (l .end) (l .have) (l .need) (l .tplace) (l .gplace) (l .k) (l .q) (state m) (at .result .now) (at .ensures)
+    (give _ _ _ _ (fit m) (l .release) (l .end) (l .spare) (l .tplace) (l .gplace) (l .k) (l .q) (state m) (at .result .now) (at .ensures)
     (omega (arith, c .before .before .shared-slice-known5 .given (l .gplace)))
     (c .before .before .before .before .if1 .taken))
 
@@ -131,19 +131,13 @@ shared-slice-read-wide-2 c =
 wide-requires-2 : tie.Need-wide-requires-2 Inv-loop μ-loop
 wide-requires-2 c κs = search needs
 
-add-need : tie.Need-add-need Inv-loop μ-loop
-add-need c =
-    let m = c .before .before .before .before .before in
-    omega (arith, fit m .jobs-most, state m .within, state m .need-most, c .wide2 .ensures, c .before .shared-slice-known6 .given (m .loop .tplace))
-
 returns : tie.Need-returns Inv-loop μ-loop
 returns c =
     let m = c .before .before .before .before .before .before in
     let l = m .loop in
     let at = c .before .before .before .list-at2 in (
       c .before .before .before .before .before .loop-test .taken,
-      short-at _ _ _ _ (fit m) (l .release) (l .end) (l .have) (l .need) (l .tplace) (l .gplace) (l .k) (l .q) (state m) (at .result .now) (at .ensures)
-          (omega (arith, c .before .before .shared-slice-known6 .given (l .tplace)))
+      short-at _ _ _ _ (fit m) (l .release) (l .end) (l .spare) (l .tplace) (l .gplace) (l .k) (l .q) (state m) (at .result .now) (at .ensures)
           (c .before .before .before .before .if1 .left)
           (rw (c .before .wide2 .ensures) at (c .if2 .taken)),
     )
@@ -170,10 +164,9 @@ loop-again-2 c =
     let m = c .before .before .before .before .before .before .before in
     let l = m .loop in
     let at = c .before .before .before .before .list-at2 in
-    let enough : l .need + getD (at .result .now) (l .tplace) 0 ≤ l .have = omega (arith, c .before .if2 .left, c .before .before .wide2 .ensures) in
+    let enough : getD (at .result .now) (l .tplace) 0 ≤ l .spare = omega (arith, c .before .if2 .left, c .before .before .wide2 .ensures) in
     rw (c .next-place2 .ensures, c .before .before .wide2 .ensures)
-    (take _ _ _ _ (fit m) (l .release) (l .end) (l .have) (l .need) (l .tplace) (l .gplace) (l .k) (l .q) (state m) (at .result .now) (at .ensures)
-    (omega (arith, c .before .before .before .shared-slice-known6 .given (l .tplace)))
+    (take _ _ _ _ (fit m) (l .release) (l .end) (l .spare) (l .tplace) (l .gplace) (l .k) (l .q) (state m) (at .result .now) (at .ensures)
     (c .before .before .before .before .before .if1 .left)
     (c .before .before .before .before .before .before .loop-test .taken)
     enough)
@@ -195,7 +188,7 @@ first-short-spec =
     mul-wide
     shared-slice-read-wide
     wide-requires
-    add-have
+    add-spare
     next-place-requires
     add-q
     add-end-2
@@ -205,7 +198,6 @@ first-short-spec =
     mul-wide-2
     shared-slice-read-wide-2
     wide-requires-2
-    add-need
     returns
     next-place-requires-2
     add-k
