@@ -119,18 +119,19 @@ fn window(producer: &Side, consumer: &Side) -> Option<u64> {
 fn first_short(taker: &Side, giver: &Side, stock: u64, window: u64) -> Option<u64> {
     let end = taker.settled().max(giver.settled() + giver.deadline) + window;
     let (mut takes, mut gives) = (taker.flow(), giver.flow());
-    let (mut given, mut taken) = (stock, 0);
+    let mut spare = stock;
     let (mut release, mut done) = (taker.offset, giver.offset + giver.deadline);
     let mut job = 0;
     while release < end {
         while done <= release {
-            given += gives.next();
+            spare += gives.next();
             done += giver.period;
         }
-        taken += takes.next();
-        if given < taken {
+        let take = takes.next();
+        if spare < take {
             return Some(job);
         }
+        spare -= take;
         job += 1;
         release += taker.period;
     }
