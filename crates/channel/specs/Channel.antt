@@ -8,12 +8,14 @@ use lib.ListN.{length}
 use Rattle.numbers.specs.Numbers.{sum}
 use Rattle.channel.specs.Side.{Side, release, end, rate, total, turn, ended, Short}
 
+-- a channel with both its sides
 pub record Channel : Type 0 where
   pub producer : Side
   pub consumer : Side
   pub initial : ℕ
   pub size : ℕ
 
+-- in the long run as much is put as taken, in whole products
 abbrev pub Balanced : Side → Side → Type 0
 Balanced p c = turn p * length (c .cycle) * c .period ≡ turn c * length (p .cycle) * p .period
 
@@ -21,6 +23,7 @@ Balanced p c = turn p * length (c .cycle) * c .period ≡ turn c * length (p .cy
 abbrev pub Underflows : Channel → ℕ → Type 0
 Underflows ch k = Short (ch .consumer) (ch .producer) (ch .initial) k
 
+-- broken at producer job j
 abbrev pub Overflows : Channel → ℕ → Type 0
 Overflows ch j = ch .size + total (ch .consumer) (ended (ch .consumer) (release (ch .producer) j)) < ch .initial + total (ch .producer) (suc j)
 

@@ -21,9 +21,11 @@ pub record IsLcm (a b L : ℕ) : Type 0 where
 unfoldable pub lcm : ℕ → ℕ → ℕ
 lcm a b = suc (least (λ i. eqb (suc i * a % b) 0) (b - 1)) * a
 
+-- the window's length L
 abbrev pub length-of : Channel → ℕ
 length-of ch = lcm (span (ch .producer)) (span (ch .consumer))
 
+-- L divided by the smaller of the two periods is above 65,536
 abbrev pub TooLong : Channel → Type 0
 TooLong ch = 65536 < length-of ch / min (ch .producer .period) (ch .consumer .period)
 
@@ -46,9 +48,11 @@ Means ch (Overflow j) =
 abbrev pub short : Side → Side → ℕ → ℕ → Bool
 short taker giver stock k = ltb (stock + total giver (ended giver (release taker k))) (total taker (suc k))
 
+-- the first short job of those that decide
 abbrev pub firstShort : ℕ → Side → Side → ℕ → ℕ
 firstShort L taker giver stock = least (short taker giver stock) (jobs L taker giver)
 
+-- the verdict computed, test by test
 unfoldable pub judge : Channel → Verdict
 judge ch =
     let p : Side = ch .producer in

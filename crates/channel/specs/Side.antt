@@ -25,6 +25,7 @@ pub record Sound (s : Side) : Type 0 where
 abbrev pub release : Side → ℕ → ℕ
 release s m = s .offset + m * s .period
 
+-- the first tick behind a job's window
 abbrev pub end : Side → ℕ → ℕ
 end s m = release s m + s .window
 
@@ -57,5 +58,6 @@ Short taker giver stock k = stock + total giver (ended giver (release taker k)) 
 abbrev pub first : Side → Side → ℕ
 first taker giver = length (taker .prefix) + (end giver (length (giver .prefix)) - taker .offset) / taker .period + 1
 
+-- the jobs up to there, and one L more
 abbrev pub jobs : ℕ → Side → Side → ℕ
 jobs L taker giver = first taker giver + L / taker .period

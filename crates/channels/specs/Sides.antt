@@ -33,22 +33,26 @@ paceOf t window = record { period = t .period; offset = t .offset; window = wind
 abbrev pub sideOf : Pace → List ℕ → List ℕ → Side
 sideOf p prefix cycle = record { period = p .period; offset = p .offset; window = p .window; prefix = prefix; cycle = cycle }
 
+-- a channel of two sides
 abbrev pub joinedAt : Side → Side → ℕ → ℕ → Channel
 joinedAt producer consumer initial size = record { producer = producer; consumer = consumer; initial = initial; size = size }
 
 -- ---- the ranges of a well-formed graph
 
+-- a task with the length of its window
 pub record Timed (t : Task) (window : ℕ) : Type 0 where
   pub some-tick : 1 ≤ window
   pub fits : window ≤ t .period
   pub period-most : t .period ≤ 1_000_000
   pub offset-most : t .offset ≤ 1_000_000
 
+-- the lists of a side
 pub record Rated (r : MemoryRates) : Type 0 where
   pub prefix-most : r .plen ≤ 16
   pub some-rate : 1 ≤ r .clen
   pub cycle-most : r .clen ≤ 32
 
+-- a channel and its two tasks
 pub record Ready (c : MemoryLink) (p q : Task) (pwindow cwindow : ℕ) : Type 0 where
   pub producer : Timed p pwindow
   pub consumer : Timed q cwindow
@@ -67,6 +71,7 @@ pub record Limited (s : Side) : Type 0 where
   pub prefix-most : length (s .prefix) ≤ 16
   pub cycle-most : length (s .cycle) ≤ 32
 
+-- a channel in range
 pub record Weighable (ch : Channel) : Type 0 where
   pub producer : Limited (ch .producer)
   pub consumer : Limited (ch .consumer)
@@ -79,6 +84,7 @@ pub record Weighable (ch : Channel) : Type 0 where
 abbrev pub turnOf : List ℕ → ℕ
 turnOf cycle = sum (λ i. getD cycle i 0) (length cycle)
 
+-- a sum that is right and small
 pub record Turned (cycle : List ℕ) (r : ℕ) : Type 0 where
   pub is : r ≡ turnOf cycle
   pub most : r ≤ 65535 * length cycle

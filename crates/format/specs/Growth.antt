@@ -12,9 +12,11 @@ use Rattle.graph.specs.Model.{Rates, Link, Graph, bare}
 abbrev pub with-tasks : Graph → List Task → Graph
 with-tasks g ts = record { tasks = ts; channels = g .channels; relations = g .relations }
 
+-- with other channels
 abbrev pub with-channels : Graph → List Link → Graph
 with-channels g cs = record { tasks = g .tasks; channels = cs; relations = g .relations }
 
+-- with other relations
 abbrev pub with-relations : Graph → List Relation → Graph
 with-relations g rs = record { tasks = g .tasks; channels = g .channels; relations = rs }
 
@@ -22,12 +24,15 @@ with-relations g rs = record { tasks = g .tasks; channels = g .channels; relatio
 abbrev pub part-of : Rates → ℕ → List ℕ
 part-of r part = cond (eqb part 0) (r .prefix) (r .cycle)
 
+-- the rates of a side
 abbrev pub side-of : Link → ℕ → Rates
 side-of c side = cond (eqb side 0) (c .production) (c .consumption)
 
+-- the list of a side and a part
 abbrev pub list-of : Link → ℕ → ℕ → List ℕ
 list-of c side part = part-of (side-of c side) part
 
+-- the same list of a channel by its number
 abbrev pub entries : Graph → ℕ → ℕ → ℕ → List ℕ
 entries g channel side part = list-of (getD (g .channels) channel (bare 0 0 0 0)) side part
 
@@ -38,6 +43,7 @@ push-part r part x =
     (record { prefix = r .prefix ++ (x ∷ []); cycle = r .cycle })
     (record { prefix = r .prefix; cycle = r .cycle ++ (x ∷ []) })
 
+-- a channel with other rates
 abbrev pub with-rates : Link → Rates → Rates → Link
 with-rates c production consumption =
     record {
@@ -49,6 +55,7 @@ with-rates c production consumption =
       consumption = consumption;
     }
 
+-- a channel with one entry more on a side and a part
 abbrev pub push : ℕ → ℕ → ℕ → Link → Link
 push side part x c =
     cond (eqb side 0)

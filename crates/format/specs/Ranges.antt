@@ -7,6 +7,7 @@ use Rattle.graph.specs.declared.Task.{Task}
 use Rattle.graph.specs.declared.Relation.{Relation}
 use Rattle.graph.specs.Model.{Rates, Link, Graph, max-tasks, max-channels, max-relations, max-prefix, max-cycle, million}
 
+-- the ranges of a task's fields
 pub record TaskRange (t : Task) : Type 0 where
   pub some-period : 1 ≤ t .period
   pub period : t .period ≤ million
@@ -22,6 +23,7 @@ pub record TaskRange (t : Task) : Type 0 where
 abbrev pub Tokens : ℕ → Type 0
 Tokens x = x ≤ 65535
 
+-- the counts and tokens of a side's rates
 pub record RatesRange (r : Rates) : Type 0 where
   pub prefix : length (r .prefix) ≤ max-prefix
   pub some-entry : 1 ≤ length (r .cycle)
@@ -38,6 +40,7 @@ pub record LinkRange (count : ℕ) (c : Link) : Type 0 where
   pub production : RatesRange (c .production)
   pub consumption : RatesRange (c .consumption)
 
+-- the ranges of a relation's fields, among so many tasks
 pub record RelationRange (count : ℕ) (r : Relation) : Type 0 where
   pub p : r .p < count
   pub q : r .q < count

@@ -16,6 +16,7 @@ use Rattle.format.specs.Record.{Kind, kind-of, size, Record, kind, task,
 
 -- ---- a graph grows by a record
 
+-- the graph with what the record says
 unfoldable pub add : Graph → Record → Graph
 add g (task t) = with-tasks g (g .tasks ++ (t ∷ []))
 add g (channel p c i s) = with-channels g (g .channels ++ (bare p c i s ∷ []))
@@ -30,12 +31,14 @@ pub data Range : Type 0 where
   names : (x n : ℕ) → Range
   signed : (z : ℤ) (high : ℕ) → Range
 
+-- what a range asks
 abbrev pub Holds : Range → Type 0
 Holds (within low x high) = (low ≤ x) × (x ≤ high)
 Holds (names x n) = (x < n) × (x < 256)
 Holds (signed (pos n) high) = n ≤ high
 Holds (signed (negsuc n) high) = n < high
 
+-- the same as a test
 abbrev pub holds : Range → Bool
 holds (within low x high) = leb low x && leb x high
 holds (names x n) = ltb x n && ltb x 256
@@ -75,17 +78,20 @@ ranges g (relation r) =
     ∷ within 1 (r .d) million
     ∷ []
 
+-- all fields of the record are in range
 abbrev pub InRange : Graph → Record → Type 0
 InRange g r = All Holds (ranges g r)
 
 -- ---- counts: how many records of its sort the graph has, and how many it may have
 
+-- how many of its sort there are
 unfoldable pub count : Graph → Record → ℕ
 count g (task t) = length (g .tasks)
 count g (channel p c i s) = length (g .channels)
 count g (rate c s p x) = length (entries g c s p)
 count g (relation r) = length (g .relations)
 
+-- how many of its sort there may be
 unfoldable pub limit : Record → ℕ
 limit (task t) = max-tasks
 limit (channel p c i s) = max-channels
@@ -99,15 +105,19 @@ pub record State : Type 0 where
   pub graph : Graph
   pub floor : ℕ
 
+-- before the first record
 abbrev pub start : State
 start = record { graph = empty; floor = 0 }
 
+-- behind one record more
 abbrev pub step : State → Record → State
 step s r = record { graph = add (s .graph) r; floor = after r }
 
+-- the tests 1 to 5
 pub data Test : Type 0 where
   unknown cut down range full : Test
 
+-- their numbers, which are their order
 abbrev pub test-number : Test → ℕ
 test-number unknown = 1
 test-number cut = 2
@@ -135,15 +145,18 @@ Stops s (k ∷ bs) t = FirstTest (Fires s (kind-of k) bs) t
 
 -- ---- good records
 
+-- a record that no test refuses
 pub record Good (s : State) (r : Record) : Type 0 where
   pub in-order : s .floor ≤ rank r
   pub in-range : InRange (s .graph) r
   pub room : count (s .graph) r < limit r
 
+-- records each good behind those before it
 abbrev pub AllGood : State → List Record → Type 0
 AllGood s [] = Unit {0}
 AllGood s (r ∷ rs) = Good s r × AllGood (step s r) rs
 
+-- behind all these records
 abbrev pub steps : State → List Record → State
 steps s [] = s
 steps s (r ∷ rs) = steps (step s r) rs
@@ -164,12 +177,14 @@ cycles (c ∷ cs) = length (c .production .cycle) ∷ length (c .consumption .cy
 abbrev pub Hollow : Graph → ℕ → Type 0
 Hollow g i = getD (cycles (g .channels)) i 1 ≡ 0
 
+-- some task, and an entry in every cycle
 pub record Whole (g : Graph) : Type 0 where
   pub some-task : 0 < length (g .tasks)
   pub some-entry : (i : ℕ) → ¬ Hollow g i
 
 -- ---- answers
 
+-- what the reader answers: a test at a place, no task, an empty cycle, or the graph
 pub data Answer : Type 0 where
   stopped : Test → ℕ → Answer
   no-task : Answer
@@ -184,6 +199,7 @@ stop-reply down place = OutOfOrder place
 stop-reply range place = OutOfRange place
 stop-reply full place = TooMany place
 
+-- the reply of each answer
 abbrev pub reply : Answer → Reply
 reply (stopped t place) = stop-reply t place
 reply no-task = NoTask
@@ -215,6 +231,7 @@ pub record Means (s : State) (at : ℕ) (bytes : List ℕ) (a : Answer) : Type 0
 abbrev pub Answers : List ℕ → Answer → Type 0
 Answers file a = Means start 0 file a
 
+-- the file reads as the graph
 abbrev pub Reads : List ℕ → Graph → Type 0
 Reads file g = Answers file (taken g)
 
@@ -225,6 +242,7 @@ pub data Front : Type 0 where
   stops : Test → Front
   passes : Record → Front
 
+-- the tests in their order
 unfoldable pub front : State → Option Kind → List ℕ → Front
 front s none bs = stops unknown
 front s (some k) bs =
@@ -241,6 +259,7 @@ first-zero [] = none
 first-zero (zero ∷ xs) = some 0
 first-zero (suc x ∷ xs) = elim (first-zero xs) [ none ↦ none | some i ↦ some (suc i) ]
 
+-- the tests of the whole graph in their order
 unfoldable pub finish : Graph → Answer
 finish g =
     cond (eqb (length (g .tasks)) 0) no-task
@@ -255,5 +274,6 @@ loop (suc n) s at (k ∷ bs) = elim (front s (kind-of k) bs) [
   | passes r ↦ loop n (step s r) (at + suc (size (kind r))) (drop (size (kind r)) bs)
 ]
 
+-- the reader's answer computed
 unfoldable pub read : List ℕ → Answer
 read file = loop (length file) start 0 file

@@ -16,6 +16,7 @@ unfoldable pub be : ℕ → ℕ → List ℕ
 be zero v = []
 be (suc w) v = v / 256 ^ w ∷ be w (v % 256 ^ w)
 
+-- the number that bytes write, the highest byte first
 unfoldable pub number : List ℕ → ℕ
 number [] = 0
 number (b ∷ bs) = b * 256 ^ length bs + number bs
@@ -25,6 +26,7 @@ abbrev pub wrap : ℤ → ℕ
 wrap (pos n) = n
 wrap (negsuc n) = 4294967295 - n
 
+-- the signed number of four bytes
 abbrev pub unwrap : ℕ → ℤ
 unwrap w = cond (ltb w 2147483648) (pos w) (negsuc (4294967295 - w))
 
@@ -34,25 +36,30 @@ join [] vs = []
 join (w ∷ ws) [] = []
 join (w ∷ ws) (v ∷ vs) = be w v ++ join ws vs
 
+-- the numbers that bytes of these widths write
 unfoldable pub split : List ℕ → List ℕ → List ℕ
 split [] bs = []
 split (w ∷ ws) bs = number (take w bs) ∷ split ws (drop w bs)
 
+-- the widths together
 abbrev pub total : List ℕ → ℕ
 total [] = 0
 total (w ∷ ws) = w + total ws
 
 -- ---- kinds
 
+-- the four kinds
 pub data Kind : Type 0 where
   a-task a-channel a-rate a-relation : Kind
 
+-- the byte of each kind
 abbrev pub code : Kind → ℕ
 code a-task = 1
 code a-channel = 2
 code a-rate = 3
 code a-relation = 4
 
+-- the kind of a byte, if it has one
 unfoldable pub kind-of : ℕ → Option Kind
 kind-of k =
     cond (eqb k 1) (some a-task)
@@ -67,17 +74,20 @@ widths a-channel = 1 ∷ 1 ∷ 4 ∷ 4 ∷ []
 widths a-rate = 1 ∷ 1 ∷ 1 ∷ 2 ∷ []
 widths a-relation = 1 ∷ 1 ∷ 4 ∷ 4 ∷ 4 ∷ []
 
+-- the length of a body
 abbrev pub size : Kind → ℕ
 size k = total (widths k)
 
 -- ---- records
 
+-- a record by its fields
 pub data Record : Type 0 where
   task : Task → Record
   channel : (producer consumer initial size : ℕ) → Record
   rate : (channel side part tokens : ℕ) → Record
   relation : Relation → Record
 
+-- its kind
 abbrev pub kind : Record → Kind
 kind (task t) = a-task
 kind (channel p c i s) = a-channel
@@ -95,6 +105,7 @@ values (relation r) = r .p ∷ r .q ∷ r .n ∷ wrap (r .phi) ∷ r .d ∷ []
 abbrev pub field : ℕ → List ℕ → ℕ
 field i vs = getD vs i 0
 
+-- the record of a kind and its fields
 abbrev pub record-of : Kind → List ℕ → Record
 record-of a-task vs =
     task (record { period = field 0 vs; offset = field 1 vs; deadline = field 2 vs; worst = field 3 vs; priority = field 4 vs })
@@ -107,12 +118,15 @@ record-of a-relation vs =
 abbrev pub body : Record → List ℕ
 body r = join (widths (kind r)) (values r)
 
+-- the kind byte and the body
 abbrev pub encode : Record → List ℕ
 encode r = code (kind r) ∷ body r
 
+-- the record that a body holds
 abbrev pub decode : Kind → List ℕ → Record
 decode k bs = record-of k (split (widths k) bs)
 
+-- records one behind the other
 unfoldable pub encodes : List Record → List ℕ
 encodes [] = []
 encodes (r ∷ rs) = encode r ++ encodes rs
@@ -121,6 +135,7 @@ encodes (r ∷ rs) = encode r ++ encodes rs
 abbrev pub digits : ℕ → ℕ → ℕ → ℕ → ℕ
 digits k a b c = k * 16777216 + a * 65536 + b * 256 + c
 
+-- kind, channel, side and part of a record as one number; only rates have the last three
 unfoldable pub rank : Record → ℕ
 rank (task t) = digits 1 0 0 0
 rank (channel p c i s) = digits 2 0 0 0

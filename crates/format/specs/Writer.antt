@@ -14,6 +14,7 @@ use Rattle.format.specs.Reader.{holds, ranges, InRange, cycles, Whole, f
 abbrev pub head : Link → Record
 head c = channel (c .producer) (c .consumer) (c .initial) (c .size)
 
+-- the rate records of channel i, by side and part
 abbrev pub rates-of : ℕ → Link → List Record
 rates-of i c =
     map (rate i 0 0) (c .production .prefix)
@@ -21,32 +22,39 @@ rates-of i c =
     ++ (map (rate i 1 0) (c .consumption .prefix)
     ++ map (rate i 1 1) (c .consumption .cycle)))
 
+-- those of all channels from number i on
 unfoldable pub rates-from : ℕ → List Link → List Record
 rates-from i [] = []
 rates-from i (c ∷ cs) = rates-of i c ++ rates-from (suc i) cs
 
+-- all records: tasks, channels, rates, relations
 unfoldable pub records : Graph → List Record
 records g = map task (g .tasks) ++ (map head (g .channels) ++ (rates-from 0 (g .channels) ++ map relation (g .relations)))
 
+-- the file of a graph
 unfoldable pub bytes : Graph → List ℕ
 bytes g = encodes (records g)
 
 -- ---- the graphs that have a file
 
+-- no list longer than its limit
 pub record Few (r : Rates) : Type 0 where
   pub prefix : length (r .prefix) ≤ max-prefix
   pub cycle : length (r .cycle) ≤ max-cycle
 
+-- the same of both sides
 pub record FewRates (c : Link) : Type 0 where
   pub production : Few (c .production)
   pub consumption : Few (c .consumption)
 
+-- no count above its limit
 pub record Counts (g : Graph) : Type 0 where
   pub tasks : length (g .tasks) ≤ max-tasks
   pub channels : length (g .channels) ≤ max-channels
   pub relations : length (g .relations) ≤ max-relations
   pub rates : All FewRates (g .channels)
 
+-- fields in range, counts within limits, a task and an entry in every cycle
 pub record Formed (g : Graph) : Type 0 where
   pub in-range : All (InRange g) (records g)
   pub counts : Counts g
@@ -56,10 +64,12 @@ pub record Formed (g : Graph) : Type 0 where
 abbrev pub few : Rates → Bool
 few r = leb (length (r .prefix)) max-prefix && leb (length (r .cycle)) max-cycle
 
+-- nothing found
 abbrev pub is-none : Option ℕ → Bool
 is-none none = true
 is-none (some i) = false
 
+-- the whole test
 unfoldable pub formed : Graph → Bool
 formed g =
     all (λ r. all holds (ranges g r)) (records g)

@@ -33,6 +33,7 @@ pub record Tells (P : Type 0) (answer : Bool) : Type 0 where
 abbrev pub Zeros : List ℕ → Type 0
 Zeros xs = xs ≡ replicate (length xs) 0
 
+-- a side with zeros behind its lists, and those in range
 pub record SideFormed (s : MemoryRates) : Type 0 where
   pub padded : s ≡ laid-rates (view-rates s)
   pub ranged : RatesRange (view-rates s)

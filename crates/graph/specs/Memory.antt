@@ -11,17 +11,21 @@ use Rattle.graph.specs.Model.{Rates, Link, Graph, empty, no-task, bare, 
 abbrev pub Memory : Type 0
 Memory = graph.Graph
 
+-- a channel in memory
 abbrev pub MemoryLink : Type 0
 MemoryLink = channel.Channel
 
+-- the rates of a side in memory
 abbrev pub MemoryRates : Type 0
 MemoryRates = side.Side
 
 -- ---- from memory to lists: the first places, as many as the count says
 
+-- the lists of a side
 abbrev pub view-rates : MemoryRates → Rates
 view-rates s = record { prefix = take (s .plen) (s .prefix); cycle = take (s .clen) (s .cycle) }
 
+-- the lists of a channel
 abbrev pub view-link : MemoryLink → Link
 view-link c =
     record {
@@ -33,6 +37,7 @@ view-link c =
       consumption = view-rates (c .consumption);
     }
 
+-- the lists of a graph
 unfoldable pub view : Memory → Graph
 view g =
     record {
@@ -47,9 +52,11 @@ view g =
 unfoldable pub pad : {A : Type 0} → ℕ → A → List A → List A
 pad n z xs = xs ++ replicate (n - length xs) z
 
+-- a side laid into its arrays
 abbrev pub laid-rates : Rates → MemoryRates
 laid-rates r = record { prefix = pad 16 0 (r .prefix); plen = length (r .prefix); cycle = pad 32 0 (r .cycle); clen = length (r .cycle) }
 
+-- a channel laid into memory
 abbrev pub laid-link : Link → MemoryLink
 laid-link c =
     record {
@@ -61,9 +68,11 @@ laid-link c =
       consumption = laid-rates (c .consumption);
     }
 
+-- a place that holds no channel
 abbrev pub zero-link : MemoryLink
 zero-link = laid-link (bare 0 0 0 0)
 
+-- a graph laid into memory
 unfoldable pub laid : Graph → Memory
 laid g =
     record {

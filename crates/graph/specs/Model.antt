@@ -20,11 +20,13 @@ pub record Link : Type 0 where
   pub production : Rates
   pub consumption : Rates
 
+-- a graph: its tasks, channels and relations in file order
 pub record Graph : Type 0 where
   pub tasks : List Task
   pub channels : List Link
   pub relations : List Relation
 
+-- the graph of nothing
 abbrev pub empty : Graph
 empty = record { tasks = []; channels = []; relations = [] }
 
@@ -32,18 +34,23 @@ empty = record { tasks = []; channels = []; relations = [] }
 abbrev pub max-tasks : ℕ
 max-tasks = 32
 
+-- at most so many channels
 abbrev pub max-channels : ℕ
 max-channels = 64
 
+-- at most so many relations
 abbrev pub max-relations : ℕ
 max-relations = 64
 
+-- at most so many entries in a prefix
 abbrev pub max-prefix : ℕ
 max-prefix = 16
 
+-- at most so many entries in a cycle
 abbrev pub max-cycle : ℕ
 max-cycle = 32
 
+-- the largest period, offset, fill, size, n, d and phase
 abbrev pub million : ℕ
 million = 1000000
 
@@ -51,6 +58,7 @@ million = 1000000
 abbrev pub no-task : Task
 no-task = record { period = 0; offset = 0; deadline = 0; worst = 0; priority = 0 }
 
+-- no rates
 abbrev pub no-rates : Rates
 no-rates = record { prefix = []; cycle = [] }
 
@@ -59,6 +67,7 @@ abbrev pub bare : ℕ → ℕ → ℕ → ℕ → Link
 bare producer consumer initial size =
     record { producer = producer; consumer = consumer; initial = initial; size = size; production = no-rates; consumption = no-rates }
 
+-- no relation
 abbrev pub no-relation : Relation
 no-relation = record { p = 0; q = 0; n = 0; phi = pos 0; d = 0 }
 
@@ -66,14 +75,18 @@ no-relation = record { p = 0; q = 0; n = 0; phi = pos 0; d = 0 }
 abbrev pub count : Graph → ℕ
 count g = length (g .tasks)
 
+-- task i of a list
 abbrev pub task-of : List Task → ℕ → Task
 task-of ts i = getD ts i no-task
 
+-- task i of a graph
 unfoldable pub task : Graph → ℕ → Task
 task g i = task-of (g .tasks) i
 
+-- channel c of a graph
 unfoldable pub link : Graph → ℕ → Link
 link g c = getD (g .channels) c (bare 0 0 0 0)
 
+-- relation r of a graph
 unfoldable pub relation : Graph → ℕ → Relation
 relation g r = getD (g .relations) r no-relation

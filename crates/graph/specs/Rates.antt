@@ -13,9 +13,11 @@ listOf prefix cycle m = cond (ltb m (length prefix)) prefix cycle
 unfoldable pub placeIn : ℕ → ℕ → ℕ → ℕ
 placeIn p c m = cond (ltb m p) m (cond (eqb c 0) 0 ((m - p) % c))
 
+-- the same of the two lists
 abbrev pub placeOf : List ℕ → List ℕ → ℕ → ℕ
 placeOf prefix cycle m = placeIn (length prefix) (length cycle) m
 
+-- the rate that stands there
 unfoldable pub rateOf : List ℕ → List ℕ → ℕ → ℕ
 rateOf prefix cycle m = getD (listOf prefix cycle m) (placeOf prefix cycle m) 0
 

@@ -84,6 +84,7 @@ pub record LaidOut (m : Memory) (g : Graph) : Type 0 where
   pub is : m ≡ laid g
   pub few : length (g .channels) ≤ 64
 
+-- memory that some lists are laid out in
 abbrev pub HoldsOne : Memory → Type 0
 HoldsOne m = (g : Graph) × LaidOut m g
 
@@ -99,5 +100,6 @@ abbrev pub EndedBy : List ℕ → Memory → End → Type 0
 EndedBy file m Whole = AllRead file m
 EndedBy file m (Stopped t at) = Answers file (stopped (test-of t) at)
 
+-- what a run over all records ends with
 abbrev pub Ended : List ℕ → Run → Type 0
 Ended file r = EndedBy file (r .graph) (r .end)

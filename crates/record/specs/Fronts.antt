@@ -42,5 +42,6 @@ abbrev pub TellsOf : State → Option Kind → List ℕ → Front → Type 0
 TellsOf s none bs f = f ≡ Stopped Unknown
 TellsOf s (some k) bs f = ((length bs < size k) × (f ≡ Stopped Cut)) ⊎ ((size k ≤ length bs) × Judges s (decode k (take (size k) bs)) f)
 
+-- what stands at the place is what the front says
 abbrev pub Tells : List ℕ → State → ℕ → Front → Type 0
 Tells file s at f = TellsOf s (kind-of (getD file at 0)) (drop (suc at) file) f

@@ -24,5 +24,6 @@ length-of (some k) = size k
 abbrev pub headed : Head → Record
 headed h = channel (h .producer) (h .consumer) (h .initial) (h .size)
 
+-- the record of an entry
 abbrev pub entered : Entry → Record
 entered e = rate (e .channel) (e .side) (e .part) (e .tokens)

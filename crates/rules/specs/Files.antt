@@ -14,6 +14,7 @@ Judged (files.stopped t place) room r l = (r ≡ files.reply (files.stopped t pl
 Judged files.no-task room r l = (r ≡ files.reply files.no-task) × (l ≡ [])
 Judged (files.no-entry place) room r l = (r ≡ files.reply (files.no-entry place)) × (l ≡ [])
 
+-- the answer to a file, with room for so many figures
 pub record FileAnswers (file : List ℕ) (room : ℕ) (r : Reply) (l : List ℕ) : Type 0 where
   pub read : files.Answer
   pub reads : files.Answers file read
@@ -26,6 +27,7 @@ judged-reply (files.stopped t place) room = files.reply (files.stopped t place)
 judged-reply files.no-task room = files.reply files.no-task
 judged-reply (files.no-entry place) room = files.reply (files.no-entry place)
 
+-- and its figures
 abbrev pub judged-report : files.Answer → ℕ → List ℕ
 judged-report (files.taken g) room = check.report g room
 judged-report (files.stopped t place) room = []

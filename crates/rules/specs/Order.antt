@@ -10,6 +10,7 @@ use Rattle.reply.specs.Reply.{number, place, job}
 abbrev pub stage : Reply → ℕ
 stage r = min (number r) 13
 
+-- what the order compares: stage, place, number, job
 abbrev pub key : Reply → List ℕ
 key r = stage r ∷ place r ∷ number r ∷ job r ∷ []
 
@@ -19,5 +20,6 @@ Sooner [] ys = ⊥
 Sooner (x ∷ xs) [] = ⊥
 Sooner (x ∷ xs) (y ∷ ys) = (x < y) ⊎ ((x ≡ y) × Sooner xs ys)
 
+-- the reply r comes before s
 abbrev pub Earlier : Reply → Reply → Type 0
 Earlier r s = Sooner (key r) (key s)

@@ -23,6 +23,7 @@ pub record Holds (g : Graph) (r : Relation) : Type 0 where
   pub periods : r .d * task g (r .p) .period ≡ r .n * task g (r .q) .period
   pub phases : pos (r .n) *ℤ (pos (task g (r .q) .offset) -ℤ pos (task g (r .p) .offset)) ≡ r .phi *ℤ pos (task g (r .p) .period)
 
+-- the load in millionths, each task's share rounded down
 unfoldable pub load : Graph → ℕ
 load g = sum (λ i. cost g i * 1_000_000 / task g i .period) (count g)
 

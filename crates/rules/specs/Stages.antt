@@ -12,12 +12,15 @@ use Rattle.rules.specs.Rules.{Refuses}
 abbrev pub At : ℕ → ℕ → Reply → Type 0
 At n i s = (stage s ≡ n) × (place s ≡ i)
 
+-- of stage n at a place below m
 abbrev pub Below : ℕ → ℕ → Reply → Type 0
 Below n m s = (stage s ≡ n) × (place s < m)
 
+-- of a stage below n
 abbrev pub Upto : ℕ → Reply → Type 0
 Upto n s = stage s < n
 
+-- of stage n
 abbrev pub In : ℕ → Reply → Type 0
 In n s = stage s ≡ n
 

@@ -8,6 +8,7 @@ use Rattle.reply.specs.declared.Reply.{Reply}
 use Rattle.reply.specs.Reply.{numbered, three}
 use Rattle.rules.specs.Files.{FileAnswers}
 
+-- a file, the room in the report, and the answer
 pub record Sample : Type 0 where
   pub file : List ℕ
   pub room : ℕ
@@ -41,6 +42,7 @@ relation phase = related 0 1 2 (0 ∷ 0 ∷ 0 ∷ phase ∷ []) 3
 
 -- ---- graph A, whole, as document 01 has it
 
+-- graph A
 abbrev pub A : List ℕ
 A =
     0x01 ∷ 0x00 ∷ 0x00 ∷ 0x00 ∷ 0x04 ∷ 0x00 ∷ 0x00 ∷ 0x00 ∷ 0x00 ∷ 0x00 ∷ 0x00 ∷ 0x00 ∷ 0x04 ∷ 0x00 ∷ 0x00 ∷ 0x00 ∷ 0x01 ∷ 0x01
@@ -153,6 +155,7 @@ further =
     ∷ refused two-channels 16 1 1
     ∷ []
 
+-- the one table
 unfoldable pub samples : List Sample
 samples = starred ++ further
 

@@ -37,6 +37,7 @@ pub record SideFits (s : MemoryRates) : Type 0 where
   pub short : s .clen ≤ 32
   pub cycle : s .clen ≤ length (s .cycle)
 
+-- the same of both sides of a channel
 pub record LinkFits (c : MemoryLink) : Type 0 where
   pub production : SideFits (c .production)
   pub consumption : SideFits (c .consumption)
