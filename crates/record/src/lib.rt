@@ -58,7 +58,7 @@ pub enum Front {
 // The length of each body, by kind.
 pub const BODY: [usize; 5] = [0, 17, 10, 5, 14];
 
-pub fn kind_of(byte: u8) -> Kind
+fn kind_of(byte: u8) -> Kind
     ensures { λ r. ⌜ r ≡ named (kind-of byte) ⌝ }
 {
     match byte {
@@ -71,7 +71,7 @@ pub fn kind_of(byte: u8) -> Kind
 }
 
 // The length of the body behind a kind byte; 0 behind an unknown one.
-pub fn length_of(byte: u8) -> usize
+fn length_of(byte: u8) -> usize
     ensures { λ r. ⌜ r ≡ length-of (kind-of byte) ⌝ }
 {
     if byte < 5 { BODY[byte as usize] } else { 0 }

@@ -10,7 +10,7 @@ use plain::Reply;
 use std::env;
 use std::process::ExitCode;
 
-const FILES: u64 = 200_000;
+const FILES: u64 = 120_000;
 const SEED: u64 = 20_240_229;
 /// Places before and behind each lent buffer that must stay.
 const MARGIN: usize = 8;
