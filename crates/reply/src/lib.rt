@@ -44,110 +44,40 @@ pub struct Numbers {
     pub job: u64,
 }
 
+fn three(number: u32, place: usize, job: u64) -> Numbers
+    ensures { λ r. ⌜ r ≡ record { number = number; place = place; job = job } ⌝ }
+{
+    Numbers {
+        number: number,
+        place: place,
+        job: job,
+    }
+}
+
 // The number, place and job of a reply.
 pub fn numbers_of(reply: Reply) -> Numbers
     ensures { λ r. ⌜ r ≡ numbered reply ⌝ }
 {
     match reply {
-        Reply::Accepted { tasks } => Numbers {
-            number: 0,
-            place: tasks,
-            job: 0,
-        },
-        Reply::UnknownKind { at } => Numbers {
-            number: 1,
-            place: at,
-            job: 0,
-        },
-        Reply::CutShort { at } => Numbers {
-            number: 2,
-            place: at,
-            job: 0,
-        },
-        Reply::OutOfOrder { at } => Numbers {
-            number: 3,
-            place: at,
-            job: 0,
-        },
-        Reply::OutOfRange { at } => Numbers {
-            number: 4,
-            place: at,
-            job: 0,
-        },
-        Reply::TooMany { at } => Numbers {
-            number: 5,
-            place: at,
-            job: 0,
-        },
-        Reply::NoTask => Numbers {
-            number: 6,
-            place: 0,
-            job: 0,
-        },
-        Reply::EmptyCycle { place } => Numbers {
-            number: 7,
-            place: place,
-            job: 0,
-        },
-        Reply::SamePriority { task } => Numbers {
-            number: 8,
-            place: task,
-            job: 0,
-        },
-        Reply::ShortReport { tasks } => Numbers {
-            number: 9,
-            place: tasks,
-            job: 0,
-        },
-        Reply::FalseRelation { relation } => Numbers {
-            number: 10,
-            place: relation,
-            job: 0,
-        },
-        Reply::Late { task } => Numbers {
-            number: 11,
-            place: task,
-            job: 0,
-        },
-        Reply::Overloaded => Numbers {
-            number: 12,
-            place: 0,
-            job: 0,
-        },
-        Reply::InitialAboveSize { channel } => Numbers {
-            number: 13,
-            place: channel,
-            job: 0,
-        },
-        Reply::Unbalanced { channel } => Numbers {
-            number: 14,
-            place: channel,
-            job: 0,
-        },
-        Reply::WindowTooLong { channel } => Numbers {
-            number: 15,
-            place: channel,
-            job: 0,
-        },
-        Reply::Underflow { channel, job } => Numbers {
-            number: 16,
-            place: channel,
-            job: job,
-        },
-        Reply::Overflow { channel, job } => Numbers {
-            number: 17,
-            place: channel,
-            job: job,
-        },
-        Reply::NoFile => Numbers {
-            number: 18,
-            place: 0,
-            job: 0,
-        },
-        Reply::ShortOutput { needed } => Numbers {
-            number: 19,
-            place: needed,
-            job: 0,
-        },
+        Reply::Accepted { tasks } => three(0, tasks, 0),
+        Reply::UnknownKind { at } => three(1, at, 0),
+        Reply::CutShort { at } => three(2, at, 0),
+        Reply::OutOfOrder { at } => three(3, at, 0),
+        Reply::OutOfRange { at } => three(4, at, 0),
+        Reply::TooMany { at } => three(5, at, 0),
+        Reply::NoTask => three(6, 0, 0),
+        Reply::EmptyCycle { place } => three(7, place, 0),
+        Reply::SamePriority { task } => three(8, task, 0),
+        Reply::ShortReport { tasks } => three(9, tasks, 0),
+        Reply::FalseRelation { relation } => three(10, relation, 0),
+        Reply::Late { task } => three(11, task, 0),
+        Reply::Overloaded => three(12, 0, 0),
+        Reply::InitialAboveSize { channel } => three(13, channel, 0),
+        Reply::Unbalanced { channel } => three(14, channel, 0),
+        Reply::WindowTooLong { channel } => three(15, channel, 0),
+        Reply::Underflow { channel, job } => three(16, channel, job),
+        Reply::Overflow { channel, job } => three(17, channel, job),
+        Reply::NoFile => three(18, 0, 0),
+        Reply::ShortOutput { needed } => three(19, needed, 0),
     }
 }
