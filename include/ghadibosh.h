@@ -22,7 +22,7 @@
  *    9   the report has fewer places than there are tasks    number of tasks
  *   10   a relation does not hold                            relation
  *   11   a task may be late                                  task
- *   12   the load is too high                                0
+ *   12   the load is too high (never: a task is late then)   0
  *   13   a channel starts with more tokens than its size     channel
  *   14   a channel's rates are not balanced                  channel
  *   15   a channel's window is too long to test              channel
@@ -30,10 +30,11 @@
  *   17   a channel may run over                              channel; *job the first job that finds no room
  *   19   the output is shorter than the file                 length needed
  *
- * *job is 0 unless the table says otherwise. Tasks, channels, relations and
- * jobs are numbered from 0; side 0 is production, 1 consumption. Where several
- * rows apply, rows 1 to 5 are tested at each record from the front of the
- * file, then 6 to 12 in turn, each with the smallest place, and then 13 to 17
+ * 18 is of graphs in memory, which these functions do not take. *job is 0
+ * unless the table says otherwise. Tasks, channels, relations and jobs are
+ * numbered from 0; side 0 is production, 1 consumption. Where several rows
+ * apply, rows 1 to 5 are tested at each record from the front of the file,
+ * then 6 to 12 in turn, each with the smallest place, and then 13 to 17
  * channel by channel.
  *
  * What the caller owes. Every pointer is aligned for its type and not null,
