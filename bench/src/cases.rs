@@ -2,8 +2,7 @@
 
 use compare::record;
 use compare::rng::Rng;
-use compare::sketch::{Link, Lists, Shape, Sketch};
-use plain::{Relation, Task};
+use compare::sketch::{Link, Lists, Relation, Shape, Sketch, Task};
 
 const MILLION: u64 = 1_000_000;
 
@@ -78,7 +77,7 @@ fn accepted(tasks: usize, links: usize, relations: usize) -> Sketch {
     loop {
         let sketch = Sketch::new(&mut rng, &shape);
         let file = record::file(&sketch.records());
-        if plain::check_file(&file, &mut [0; 32]).number == 0 {
+        if twin::check_file(&file, &mut [0; 32]).number == 0 {
             return sketch;
         }
     }

@@ -1,4 +1,4 @@
-//! Measures the proved checker against the plain one, in one run: bench [NAME...].
+//! Measures the proved checker against its twin in plain Rust, in one run: bench [NAME...].
 //!
 //! Both are called in turn on the same file; the time of each is the least of several rounds,
 //! per call, as the processor counts it for this thread. Buffers are made once and not cleared
@@ -8,8 +8,7 @@ mod cases;
 mod clock;
 
 use cases::Sized;
-use compare::verified;
-use plain::Reply;
+use compare::verified::{self, Reply};
 use std::hint::black_box;
 
 /// The fewest and the most rounds of a file.
@@ -20,6 +19,11 @@ const FILE: f64 = 1.0;
 
 /// What is called: a file in, a reply out.
 type Call = fn(&[u8], &mut Buffers) -> Reply;
+
+/// The twin's reply, as the proved checker's stands.
+fn told(twin::Reply { number, place, job }: twin::Reply) -> Reply {
+    Reply { number, place, job }
+}
 
 /// What the calls write to.
 struct Buffers {
@@ -38,15 +42,15 @@ struct Case {
 
 const READ: (Call, Call) = (
     |file, _| verified::read(file),
-    |file, _| black_box(plain::read(file)).0,
+    |file, _| told(black_box(twin::read(file)).0),
 );
 const REWRITE: (Call, Call) = (
     |file, to| verified::rewrite(file, &mut to.out),
-    |file, to| plain::write(&plain::read(file).1, &mut to.out),
+    |file, to| told(twin::write(&twin::read(file).1, &mut to.out)),
 );
 const CHECK: (Call, Call) = (
     |file, to| verified::check(file, &mut to.report),
-    |file, to| plain::check_file(file, &mut to.report),
+    |file, to| told(twin::check_file(file, &mut to.report)),
 );
 
 const CASES: [Case; 6] = [

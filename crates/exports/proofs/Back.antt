@@ -3,20 +3,23 @@ use mathlib.Core.Path.{_≡_, refl, ap, sym, subst, _∙_}
 use mathlib.Core.List.{List, _++_}
 use Prim.Native.Nat.{ℕ, _≤_, _<_}
 use native.Mathlib.Omega.{arith}
-use lib.ListN.{length, drop}
+use lib.ListN.{length, take, drop}
+use lib.Seq.{take-at}
 use Rattle.reply.specs.declared.Reply.{Reply}
+use Rattle.reply.specs.declared.Reply.the-variants.{Accepted}
 use Rattle.reply.specs.declared.Numbers.{Numbers}
 use Rattle.reply.specs.Reply.{number, place}
 use Rattle.graph.specs.Model.{empty}
-use Rattle.graph.specs.Memory.{laid}
+use Rattle.graph.specs.Memory.{Memory, laid}
 use Rattle.graph.proofs.Laid.{view-laid}
 use Rattle.format.specs.Reader as files
+use Rattle.format.proofs.Reading.{one-answer}
 use Rattle.format.specs.Writer.{Formed}
 use Rattle.formed.specs.Formed.{WellFormed}
 use Rattle.reader.specs.declared.Reading.{Reading}
 use Rattle.reader.specs.Reading.{Gives}
 use Rattle.formed.specs.Formed.{ReadsAs}
-use Rattle.writer.specs.Writing.{no-file, short, wrote}
+use Rattle.writer.specs.Writing.{Writes, no-file, short, wrote}
 use Rattle.writer.proofs.Writing.{one-file}
 use Rattle.checker.proofs.Files.{well}
 use Rattle.exports.specs.Exports.{Rewrites, refused, passed, Rewritten, Read}
@@ -87,3 +90,16 @@ module _ (file : List ℕ) where
     pub length-needed : Rewritten file before 19 p j after → p ≡ length file
     length-needed w =
         sym (ap (λ (x : Numbers). x .place) (w .numbers)) ∙ needed before (w .reading) (w .gives) (w .rewrites) (ap (λ (x : Numbers). x .number) (w .numbers))
+
+-- what the writer put at the front, read again: accepted, and the same graph
+pub graph-again : (g : Memory) (out : List ℕ) (n : ℕ) (after : List ℕ) → Writes g out (Accepted n) after
+    → (file : List ℕ) × (take (length file) after ≡ file) × ((r : Reading) → Gives file r → (r .reply ≡ Accepted n) × (r .graph ≡ g))
+unfolding laid
+graph-again g out n after (wrote file q l) =
+    (file, take-at file (drop (length file) out) (length file) refl, again)
+  where
+    again : (r : Reading) → Gives file r → (r .reply ≡ Accepted (g .ntasks)) × (r .graph ≡ g)
+    again r h =
+        let e : h .answer ≡ files.taken (q .model) = one-answer file (h .answer) (files.taken (q .model)) (h .means) (q .reads) in
+        let same : r .graph ≡ g = h .graph ∙ ap (λ a. laid (files.graph-of a)) e ∙ sym (q .same) in
+        (h .reply ∙ ap files.reply e ∙ ap (λ (m : Memory). Accepted (m .ntasks)) (sym (q .same)), same)

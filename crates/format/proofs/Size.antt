@@ -1,5 +1,5 @@
 -- A formed graph's file is made of bytes, and how long it can be. Assumes nothing.
-use mathlib.Core.Path.{_≡_, refl, ap, sym, _∙_}
+use mathlib.Core.Path.{_≡_, refl, ap, sym, subst, _∙_}
 use mathlib.Core.List.{List, [], _∷_, _++_, map}
 use Prim.Native.Nat.{ℕ, suc, _+_, _*_, _≤_, _<_}
 use native.Mathlib.Omega.{arith}
@@ -99,3 +99,8 @@ encodes-bytes : (g : Graph) (rs : List Record) → All (InRange g) rs → Bytes 
 unfolding encodes
 encodes-bytes g [] h = tt
 encodes-bytes g (r ∷ rs) h = all-append (λ b. b < 256) (encode r) (encodes rs) (encode-bytes g r (h .0)) (encodes-bytes g rs (h .1))
+
+-- a file that the reader takes is a list of bytes
+pub taken-bytes : (file : List ℕ) (g : Graph) → Reads file g → Bytes file
+unfolding bytes
+taken-bytes file g m = subst Bytes (reads-bytes file g m) (encodes-bytes g (records g) (reads-formed file g m .in-range))

@@ -1,4 +1,4 @@
--- The counts of a well-formed graph, and its places as its lists have them. Assumes nothing.
+-- The counts of a well-formed graph. Assumes nothing.
 use mathlib.Core.Path.{_≡_, ap, sym}
 use lib.ListN.{length}
 use Rattle.graph.specs.Memory.{Memory, view, laid}
@@ -10,15 +10,7 @@ module _ (g : Memory) (w : WellFormed g) where
   pub counts : Told g
   counts = well-no g w
 
-  -- the lists are as long as the counts say
+  -- the list of tasks is as long as its count says
   pub count-tasks : length (view g .tasks) ≡ g .ntasks
   unfolding laid
   count-tasks = sym (ap (λ (x : Memory). x .ntasks) (w .padded))
-
-  pub count-channels : length (view g .channels) ≡ g .nchannels
-  unfolding laid
-  count-channels = sym (ap (λ (x : Memory). x .nchannels) (w .padded))
-
-  pub count-relations : length (view g .relations) ≡ g .nrelations
-  unfolding laid
-  count-relations = sym (ap (λ (x : Memory). x .nrelations) (w .padded))

@@ -1,10 +1,10 @@
 -- What a file gives is determined: reply and every place of the graph. Assumes nothing.
-use mathlib.Core.Path.{_≡_, refl, sym, ap, _∙_}
+use mathlib.Core.Path.{_≡_, sym, ap, _∙_}
 use mathlib.Core.List.{List}
 use Prim.Native.Nat.{ℕ}
 use Rattle.graph.specs.Memory.{laid}
-use Rattle.format.specs.Reader.{Answer, reply, graph-of, read, Bytes}
-use Rattle.format.proofs.Reading.{one-answer, read-answers}
+use Rattle.format.specs.Reader.{reply, graph-of}
+use Rattle.format.proofs.Reading.{one-answer}
 use Rattle.reader.specs.declared.Reading.{Reading}
 use Rattle.reader.specs.Reading.{Gives}
 
@@ -14,7 +14,3 @@ determined file q r a b =
     let f = a .reply ∙ ap reply e ∙ sym (b .reply) in
     let g = a .graph ∙ ap (λ x. laid (graph-of x)) e ∙ sym (b .graph) in
     λ i. record { reply = f i; graph = g i }
-
--- and it is what the reading of the format comes to
-pub gives-read : (file : List ℕ) → Bytes file → Gives file (record { reply = reply (read file); graph = laid (graph-of (read file)) })
-gives-read file h = record { answer = read file; means = read-answers file h; reply = refl; graph = refl }

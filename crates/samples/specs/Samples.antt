@@ -153,6 +153,9 @@ further =
     -- 16: the producer's window ends at its deadline and not at the next release; job 1 of channel 1, though that channel overflows too
     ∷ accepted (task 4 0 3 1 1 ++ (task 6 7 6 2 2 ++ (channel 0 1 0 8 ++ rates 2 3))) 2 (1 ∷ 3 ∷ [])
     ∷ refused two-channels 16 1 1
+    -- 10: φ × T_p over n has a remainder, 6 over 4 and −6 over 4
+    ∷ refused (task 6 0 6 1 1 ++ (task 3 1 3 1 2 ++ related 0 1 4 (0 ∷ 0 ∷ 0 ∷ 1 ∷ []) 2)) 10 0 0
+    ∷ refused (task 6 1 6 1 1 ++ (task 3 0 3 1 2 ++ related 0 1 4 (minus 0xff) 2)) 10 0 0
     ∷ []
 
 -- the one table

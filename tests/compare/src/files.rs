@@ -3,8 +3,7 @@
 use crate::damage;
 use crate::record::{self, Record};
 use crate::rng::Rng;
-use crate::sketch::{self, Link, Lists, Shape, Sketch};
-use plain::{Relation, Task};
+use crate::sketch::{self, Link, Lists, Relation, Shape, Sketch, Task};
 
 /// A sort's name, how many of ten thousand files are of it, and how one is made.
 pub type Sort = (&'static str, u64, fn(&mut Rng) -> Vec<u8>);

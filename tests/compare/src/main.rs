@@ -1,4 +1,4 @@
-//! Compares the proved checker with the plain one: compare [FILES [SEED]].
+//! Compares the proved checker with the independent one: compare [FILES [SEED]].
 //!
 //! Each file goes through check, rewrite and read on both sides; replies and whole buffers, with
 //! the places around them that belong to nobody, must be the same. The first difference is
@@ -6,7 +6,7 @@
 
 use compare::rng::Rng;
 use compare::{files, verified};
-use plain::Reply;
+use independent::Reply;
 use std::env;
 use std::process::ExitCode;
 
@@ -86,7 +86,7 @@ fn compare(rng: &mut Rng, file: &[u8], sort: usize, tally: &mut Tally) -> Result
     tally.sorts[sort].1 += u64::from(reply.number == 0);
     let reply = compare_rewrite(rng, file)?;
     tally.writes[reply.number as usize] += 1;
-    same("read", plain::read(file).0, verified::read(file))?;
+    same("read", read(file), verified::read(file))?;
     same("the file itself", &before[..], file)
 }
 
@@ -103,7 +103,7 @@ fn compare_check(rng: &mut Rng, file: &[u8]) -> Result<Reply, String> {
     };
     let mut ours = pattern(rng, places, |number| number as u32);
     let mut theirs = ours.clone();
-    let reply = plain::check_file(file, inner(&mut ours));
+    let reply = independent::check(file, inner(&mut ours));
     same("check", reply, verified::check(file, inner(&mut theirs)))?;
     same("the report", ours, theirs)?;
     Ok(reply)
@@ -119,7 +119,7 @@ fn compare_rewrite(rng: &mut Rng, file: &[u8]) -> Result<Reply, String> {
     };
     let mut ours = pattern(rng, len, |number| (number >> 8) as u8);
     let mut theirs = ours.clone();
-    let reply = rewrite(file, inner(&mut ours));
+    let reply = independent::rewrite(file, inner(&mut ours));
     same(
         "rewrite",
         reply,
@@ -136,11 +136,11 @@ fn compare_rewrite(rng: &mut Rng, file: &[u8]) -> Result<Reply, String> {
     Ok(reply)
 }
 
-/// Reads a file and writes it back: the reader's reply if it refuses, else the writer's.
-fn rewrite(file: &[u8], out: &mut [u8]) -> Reply {
-    match plain::read(file) {
-        (Reply { number: 0, .. }, graph) => plain::write(&graph, out),
-        (refusal, _) => refusal,
+/// The reply to reading a file: the refusal, or the number of tasks.
+fn read(file: &[u8]) -> Reply {
+    match independent::read(file) {
+        Ok(graph) => Reply::new(0, graph.tasks.len()),
+        Err(refusal) => refusal,
     }
 }
 
@@ -160,12 +160,12 @@ fn inner<T>(buffer: &mut [T]) -> &mut [T] {
     &mut buffer[MARGIN..end]
 }
 
-fn same<T: PartialEq + std::fmt::Debug>(what: &str, plain: T, verified: T) -> Result<(), String> {
-    if plain == verified {
+fn same<T: PartialEq + std::fmt::Debug>(what: &str, ours: T, verified: T) -> Result<(), String> {
+    if ours == verified {
         return Ok(());
     }
     Err(format!(
-        "{what} differs\n  plain    {plain:?}\n  verified {verified:?}"
+        "{what} differs\n  independent {ours:?}\n  verified    {verified:?}"
     ))
 }
 

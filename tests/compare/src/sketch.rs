@@ -3,9 +3,26 @@
 
 use crate::record::Record;
 use crate::rng::Rng;
-use plain::{Relation, Task};
 
 const MILLION: u64 = 1_000_000;
+
+#[derive(Clone, Copy, Debug, Default)]
+pub struct Task {
+    pub period: u32,
+    pub offset: u32,
+    pub deadline: u32,
+    pub worst: u32,
+    pub priority: u8,
+}
+
+#[derive(Clone, Copy, Debug, Default)]
+pub struct Relation {
+    pub p: u8,
+    pub q: u8,
+    pub n: u32,
+    pub phi: i32,
+    pub d: u32,
+}
 
 /// The entries of one side of a channel.
 #[derive(Clone, Debug, Default)]

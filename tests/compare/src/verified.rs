@@ -1,6 +1,6 @@
 //! The proved checker's C functions, as safe ones.
 
-use plain::Reply;
+pub use independent::Reply;
 
 unsafe extern "C" {
     fn ghadibosh_check(

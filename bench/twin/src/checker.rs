@@ -14,15 +14,6 @@ pub fn check_file(file: &[u8], report: &mut [u32]) -> Reply {
     }
 }
 
-/// Judges a graph: 18 stands in place of 1 to 7.
-pub fn check_graph(graph: &Graph, report: &mut [u32]) -> Reply {
-    if graph.well_formed() {
-        judge(graph, report)
-    } else {
-        Reply::at(18, 0)
-    }
-}
-
 fn judge(graph: &Graph, report: &mut [u32]) -> Reply {
     match verdict(graph, report.len()) {
         Ok(times) => {
