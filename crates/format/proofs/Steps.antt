@@ -12,7 +12,7 @@ use lib.Seq.{drop-cons, drop-drop, take-suc, getD-drop}
 use Rattle.graph.specs.Model.{Link, bare}
 use Rattle.format.specs.Growth.{list-of}
 use Rattle.format.specs.Record.{be, number, split, total, Kind, kind-of, size, Record, kind, encode, decode, digits, rank}
-use Rattle.format.specs.Reader.{InRange, count, limit, State, start, step, Test, unknown, cut, down, range, full, Fires, FirstTest, Good, cycles, Answer, stopped, Ends, Means, Answers, passes, Bytes}
+use Rattle.format.specs.Reader.{InRange, count, limit, State, start, step, Test, unknown, cut, down, range, full, Fires, FirstTest, Good, cycles, Answer, stopped, Ends, Answers, Leads, passes, Bytes}
 use Rattle.numbers.proofs.Lists.{all-drop}
 use Rattle.numbers.proofs.Sums.{cases}
 use Rattle.format.proofs.Records.{kind-decode, body-length}
@@ -20,11 +20,6 @@ use Rattle.format.proofs.Front.{Says, none-before}
 use Rattle.format.proofs.Reading.{here, prepend, passed}
 
 -- ---- the loop
-
--- Behind `at` bytes, which have led to state s, the answer to what is left is the answer to the file.
-pub record Leads (file : List ℕ) (s : State) (at : ℕ) : Type 0 where
-  pub inside : at ≤ length file
-  pub so : (a : Answer) → Means s at (drop at file) a → Answers file a
 
 pub leads-start : (file : List ℕ) → Leads file start 0
 leads-start file = record { inside = omega arith; so = λ a m. m }

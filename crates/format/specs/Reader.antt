@@ -25,7 +25,7 @@ add g (relation r) = with-relations g (g .relations ++ (r ∷ []))
 
 -- ---- ranges
 
--- x is from low to high; the byte x is the number of one of n records; the signed z is from -high to high
+-- x is from low to high; x, which one byte holds, is the number of one of n records; the signed z is from -high to high
 pub data Range : Type 0 where
   within : (low x high : ℕ) → Range
   names : (x n : ℕ) → Range
@@ -45,11 +45,11 @@ holds (names x n) = ltb x n && ltb x 256
 holds (signed (pos n) high) = leb n high
 holds (signed (negsuc n) high) = ltb n high
 
--- what a file is a list of
+-- a list of bytes, which a file is
 abbrev pub Bytes : List ℕ → Type 0
 Bytes bs = All (λ b. b < 256) bs
 
--- the ranges of a record's fields, behind the graph so far
+-- the ranges of a record's fields, behind the graph so far; tokens are any that two bytes hold
 unfoldable pub ranges : Graph → Record → List Range
 ranges g (task t) =
     within 1 (t .period) million
@@ -84,14 +84,14 @@ InRange g r = All Holds (ranges g r)
 
 -- ---- counts: how many records of its sort the graph has, and how many it may have
 
--- how many of its sort there are
+-- how many records of its sort there are, of a rate how many entries of its list
 unfoldable pub count : Graph → Record → ℕ
 count g (task t) = length (g .tasks)
 count g (channel p c i s) = length (g .channels)
 count g (rate c s p x) = length (entries g c s p)
 count g (relation r) = length (g .relations)
 
--- how many of its sort there may be
+-- how many there may be
 unfoldable pub limit : Record → ℕ
 limit (task t) = max-tasks
 limit (channel p c i s) = max-channels
@@ -138,7 +138,7 @@ Fires s (some k) bs full = limit (decode k (take (size k) bs)) ≤ count (s .gra
 abbrev pub FirstTest : (Test → Type 0) → Test → Type 0
 FirstTest F t = F t × ((u : Test) → test-number u < test-number t → ¬ F u)
 
--- the same where the bytes `rest` are still to be read
+-- t is the first test that fires at the record in front of these bytes; where no byte is left, none fires
 abbrev pub Stops : State → List ℕ → Test → Type 0
 Stops s [] t = ⊥
 Stops s (k ∷ bs) t = FirstTest (Fires s (kind-of k) bs) t
@@ -191,7 +191,7 @@ pub data Answer : Type 0 where
   no-entry : ℕ → Answer
   taken : Graph → Answer
 
--- the reply that an answer is given by
+-- the reply of a test that fires at a place
 abbrev pub stop-reply : Test → ℕ → Reply
 stop-reply unknown place = UnknownKind place
 stop-reply cut place = CutShort place
@@ -231,6 +231,11 @@ pub record Means (s : State) (at : ℕ) (bytes : List ℕ) (a : Answer) : Type 0
 abbrev pub Answers : List ℕ → Answer → Type 0
 Answers file a = Means start 0 file a
 
+-- The first `at` bytes of the file have led to state s: any answer to what is left is the answer to the file.
+pub record Leads (file : List ℕ) (s : State) (at : ℕ) : Type 0 where
+  pub inside : at ≤ length file
+  pub so : (a : Answer) → Means s at (drop at file) a → Answers file a
+
 -- the file reads as the graph
 abbrev pub Reads : List ℕ → Graph → Type 0
 Reads file g = Answers file (taken g)
@@ -265,7 +270,7 @@ finish g =
     cond (eqb (length (g .tasks)) 0) no-task
     (elim (first-zero (cycles (g .channels))) [ none ↦ taken g | some i ↦ no-entry i ])
 
--- Each record has at least one byte, so as many rounds as there are bytes are enough.
+-- record by record, at byte `at`; each record has at least one byte, so as many rounds as there are bytes are enough
 unfoldable pub loop : ℕ → State → ℕ → List ℕ → Answer
 loop zero s at bs = finish (s .graph)
 loop (suc n) s at [] = finish (s .graph)

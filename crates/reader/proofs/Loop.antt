@@ -13,9 +13,9 @@ use Rattle.graph.specs.Memory.{Memory, MemoryLink, laid-link, laid}
 use Rattle.graph.proofs.Stores.{store-task, store-channel, store-relation, load-link, store-link}
 use Rattle.format.specs.Growth.{push, change}
 use Rattle.format.specs.Record.{Kind, kind-of, size, Record, kind, task, relation, decode, digits, rank, after}
-use Rattle.format.specs.Reader.{add, State, start, step, Bytes, ranges, InRange, count, limit, Good, Test, full, stopped, Answers}
+use Rattle.format.specs.Reader.{add, State, start, step, Bytes, ranges, InRange, count, limit, Good, Test, full, stopped, Answers, Leads}
 use Rattle.format.proofs.Records.{kind-decode}
-use Rattle.format.proofs.Steps.{Leads, leads-start, leads-step, leads-stop, is-unknown, is-cut, is-down, is-range, is-full}
+use Rattle.format.proofs.Steps.{leads-start, leads-step, leads-stop, is-unknown, is-cut, is-down, is-range, is-full}
 use Rattle.record.specs.declared.Head.{Head}
 use Rattle.record.specs.declared.Entry.{Entry}
 use Rattle.record.specs.declared.Test.{Test as Named}

@@ -5,12 +5,11 @@ use mathlib.Core.List.{List, []}
 use Prim.Native.Nat.{ℕ, _≤_, _<_}
 use lib.Dec.{eqb}
 use lib.ListN.{length, set}
-use Rattle.graph.specs.Model.{Rates, Link, Graph}
+use Rattle.graph.specs.Model.{Rates, Link, Graph, max-channels, max-prefix, max-cycle}
 use Rattle.graph.specs.Memory.{Memory, MemoryLink, MemoryRates, laid-rates, laid-link, laid}
 use Rattle.format.specs.Growth.{with-rates, list-of}
 use Rattle.format.specs.Record.{rank}
-use Rattle.format.proofs.Steps.{Leads}
-use Rattle.format.specs.Reader.{State, Test, unknown, cut, down, range, full, limit, Answer, stopped, Ends, Answers}
+use Rattle.format.specs.Reader.{State, Test, unknown, cut, down, range, full, limit, Answer, stopped, Ends, Answers, Leads}
 use Rattle.record.specs.declared.Test.{Test as Named}
 use Rattle.record.specs.declared.Test.the-variants.{Unknown, Cut, Down, Range, Full}
 use Rattle.record.specs.declared.Entry.{Entry}
@@ -19,9 +18,9 @@ use Rattle.reader.specs.declared.End.the-variants.{Whole, Stopped}
 use Rattle.reader.specs.declared.Run.{Run}
 use Rattle.record.specs.Heads.{entered}
 
--- the part has a place for one entry more
+-- the part of a side in memory has a place for one entry more
 abbrev pub Room : MemoryRates → ℕ → Type 0
-Room s part = cond (eqb part 0) (s .plen) (s .clen) < cond (eqb part 0) 16 32
+Room s part = cond (eqb part 0) (s .plen) (s .clen) < cond (eqb part 0) max-prefix max-cycle
 
 -- a channel with other rates at a side
 abbrev pub with-sides : Link → ℕ → Rates → Link
@@ -43,7 +42,7 @@ pub record Stands (file : List ℕ) (m : Memory) (floor at : ℕ) : Type 0 where
   pub leads : Leads file state at
   pub floors : state .floor ≡ floor
   pub laid-out : m ≡ laid (state .graph)
-  pub few : length (state .graph .channels) ≤ 64
+  pub few : length (state .graph .channels) ≤ max-channels
 
 -- memory with another channel at a place
 abbrev pub stored : Memory → ℕ → MemoryLink → Memory
@@ -65,7 +64,7 @@ pub record Stood (file : List ℕ) (m : Memory) (c : MemoryLink) (e : Entry) (fl
   pub channels : m .nchannels ≡ nchannels
   pub relations : m .nrelations ≡ nrelations
 
--- and with the rates s at the side that the entry names
+-- the same with the rates s at the side that the entry names
 pub record Fills (file : List ℕ) (m : Memory) (l : Link) (e : Entry) (floor ntasks nchannels nrelations : ℕ) (s : MemoryRates) (at : ℕ) : Type 0 where
   pub rates : Rates
   pub is : s ≡ laid-rates rates
@@ -79,10 +78,10 @@ test-of Down = down
 test-of Range = range
 test-of Full = full
 
--- the graph that memory holds, laid out
+-- memory is the graph g laid out
 pub record LaidOut (m : Memory) (g : Graph) : Type 0 where
   pub is : m ≡ laid g
-  pub few : length (g .channels) ≤ 64
+  pub few : length (g .channels) ≤ max-channels
 
 -- memory that some lists are laid out in
 abbrev pub HoldsOne : Memory → Type 0
