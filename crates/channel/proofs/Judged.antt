@@ -12,13 +12,12 @@ use Rattle.channel.specs.Side.{Side, Sound, release, total, turn, span, 
 use Rattle.channel.specs.Channel.{Channel, Balanced, Underflows, Overflows}
 use Rattle.channel.specs.declared.Verdict.{Verdict}
 use Rattle.channel.specs.declared.Verdict.the-variants.{Fine, InitialAboveSize, Unbalanced, WindowTooLong, Underflow, Overflow}
-use Rattle.channel.specs.Judge.{IsLcm, length-of, short, firstShort, Means, judge}
+use Rattle.channel.specs.Judge.{IsLcm, length-of, longest, short, firstShort, Means, judge}
 use Rattle.numbers.proofs.Sums.{cases}
 use Rattle.channel.proofs.Periodic.{earlier, decided}
 use Rattle.numbers.proofs.Least.{least-is}
 use Rattle.channel.proofs.Least.{lcm-is}
 use Rattle.channel.proofs.Parts.{short-over, over-short}
-use Rattle.channel.proofs.Exact.{passes-balanced}
 
 short-yes : (t g : Side) (stock k : ℕ) → short t g stock k ≡ true → Short t g stock k
 short-yes t g stock k e = ltb-true (stock + total g (ended g (release t k))) (total t (suc k)) e
@@ -108,64 +107,63 @@ module _ (ch : Channel) (okp : Sound (ch .producer)) (okc : Sound (ch .consumer)
       (over-short ch fits i (f .0), λ k l s. f .1 k l (short-over ch k s))
 
   by-tests :
-      (a b c d e : Bool) → ltb (ch .size) (ch .initial) ≡ a → eqb x y ≡ b → ltb 65536 w ≡ c → ltb k ks ≡ d → ltb j js ≡ e
+      (a b c d e : Bool) → ltb (ch .size) (ch .initial) ≡ a → eqb x y ≡ b → ltb longest w ≡ c → ltb k ks ≡ d → ltb j js ≡ e
       → Means ch (cond a InitialAboveSize (cond b (cond c WindowTooLong (cond d (Underflow k) (cond e (Overflow j) Fine))) Unbalanced))
   by-tests true b c d e ea eb ec ed ee = ltb-true (ch .size) (ch .initial) ea
   by-tests false false c d e ea eb ec ed ee = (ltb-false (ch .size) (ch .initial) ea, eqb-false x y eb)
-  by-tests false true true d e ea eb ec ed ee = (ltb-false (ch .size) (ch .initial) ea, eqb-true x y eb, ltb-true 65536 w ec)
+  by-tests false true true d e ea eb ec ed ee = (ltb-false (ch .size) (ch .initial) ea, eqb-true x y eb, ltb-true longest w ec)
   by-tests false true false true e ea eb ec ed ee = (
     ltb-false (ch .size) (ch .initial) ea,
     eqb-true x y eb,
-    λ h. omega (arith, ltb-false 65536 w ec),
+    λ h. omega (arith, ltb-false longest w ec),
     first-is (ch .consumer) (ch .producer) L (ch .initial) (ltb-true k ks ed),
   )
   by-tests false true false false true ea eb ec ed ee = (
     ltb-false (ch .size) (ch .initial) ea,
     eqb-true x y eb,
-    λ h. omega (arith, ltb-false 65536 w ec),
+    λ h. omega (arith, ltb-false longest w ec),
     no-under (eqb-true x y eb) (ltb-false k ks ed),
     first-over (ltb-false (ch .size) (ch .initial) ea) (ltb-true j js ee),
   )
   by-tests false true false false false ea eb ec ed ee = (
-    λ h. omega (arith, ltb-false 65536 w ec),
-    record {
-      fits = ltb-false (ch .size) (ch .initial) ea;
-      no-underflow = no-under (eqb-true x y eb) (ltb-false k ks ed);
-      no-overflow = no-over (ltb-false (ch .size) (ch .initial) ea) (eqb-true x y eb) (ltb-false j js ee);
-    },
+    ltb-false (ch .size) (ch .initial) ea,
+    eqb-true x y eb,
+    λ h. omega (arith, ltb-false longest w ec),
+    no-under (eqb-true x y eb) (ltb-false k ks ed),
+    no-over (ltb-false (ch .size) (ch .initial) ea) (eqb-true x y eb) (ltb-false j js ee),
   )
 
   pub judge-means : Means ch (judge ch)
   unfolding judge
   judge-means =
-      by-tests (ltb (ch .size) (ch .initial)) (eqb x y) (ltb 65536 w) (ltb k ks) (ltb j js) refl refl refl refl refl
+      by-tests (ltb (ch .size) (ch .initial)) (eqb x y) (ltb longest w) (ltb k ks) (ltb j js) refl refl refl refl refl
 
   -- and no other verdict is true of the channel
   pub means-judge : (v : Verdict) → Means ch v → judge ch ≡ v
   unfolding judge
   means-judge Fine m =
-      let kn : ks ≤ k = is-none (ch .consumer) (ch .producer) L (ch .initial) (m .1 .no-underflow) in
-      let jn : js ≤ j = is-none (ch .producer) (ch .consumer) L (ch .size - ch .initial) (λ i s. m .1 .no-overflow i (short-over ch i s)) in
+      let kn : ks ≤ k = is-none (ch .consumer) (ch .producer) L (ch .initial) (m .3) in
+      let jn : js ≤ j = is-none (ch .producer) (ch .consumer) L (ch .size - ch .initial) (λ i s. m .4 i (short-over ch i s)) in
       rw (
-        le-ltb (ch .size) (ch .initial) (m .1 .fits),
-        eq-eqb x y (passes-balanced ch okp okc (m .1)),
-        le-ltb 65536 w (omega (arith, m .0)),
+        le-ltb (ch .size) (ch .initial) (m .0),
+        eq-eqb x y (m .1),
+        le-ltb longest w (omega (arith, m .2)),
         le-ltb k ks kn,
         le-ltb j js jn,
       )
   means-judge InitialAboveSize m = rw (lt-ltb (ch .size) (ch .initial) m)
   means-judge Unbalanced m = rw (le-ltb (ch .size) (ch .initial) (m .0), ne-eqb x y (m .1))
-  means-judge WindowTooLong m = rw (le-ltb (ch .size) (ch .initial) (m .0), eq-eqb x y (m .1), lt-ltb 65536 w (m .2))
+  means-judge WindowTooLong m = rw (le-ltb (ch .size) (ch .initial) (m .0), eq-eqb x y (m .1), lt-ltb longest w (m .2))
   means-judge (Underflow i) m =
       let u = is-under (m .1) i (m .3) in
-      rw (le-ltb (ch .size) (ch .initial) (m .0), eq-eqb x y (m .1), le-ltb 65536 w (omega (arith, m .2)), u .1, lt-ltb i ks (u .0))
+      rw (le-ltb (ch .size) (ch .initial) (m .0), eq-eqb x y (m .1), le-ltb longest w (omega (arith, m .2)), u .1, lt-ltb i ks (u .0))
   means-judge (Overflow i) m =
       let o = is-over (m .0) (m .1) i (m .4) in
       let kn : ks ≤ k = is-none (ch .consumer) (ch .producer) L (ch .initial) (m .3) in
       rw (
         le-ltb (ch .size) (ch .initial) (m .0),
         eq-eqb x y (m .1),
-        le-ltb 65536 w (omega (arith, m .2)),
+        le-ltb longest w (omega (arith, m .2)),
         le-ltb k ks kn,
         o .1,
         lt-ltb i js (o .0),

@@ -6,6 +6,7 @@ use native.Mathlib.Omega.{arith}
 use lib.ListN.{length}
 use Rattle.channel.specs.Side.{Side, Sound, release, end, total, turn, span, ended, Short, first, jobs}
 use Rattle.channel.specs.Channel.{Balanced}
+use Rattle.channel.specs.Judge.{longest}
 use Rattle.numbers.proofs.Sums.{cases}
 use Rattle.channel.proofs.Jobs.{ended-iff, ended-later}
 use Rattle.channel.proofs.Totals.{turns}
@@ -91,7 +92,7 @@ module _ (t g : Side) (okt : Sound t) (okg : Sound g) where
   -- how many jobs are tested, under the limits of a graph file: no offset above a million, no prefix above 16, no window too long
   pub jobs-few :
       (L : ℕ) → 0 < L → span g ∣ L → g .offset ≤ 1_000_000 → length (t .prefix) ≤ 16 → length (g .prefix) ≤ 16
-      → L / t .period ≤ 65536
+      → L / t .period ≤ longest
       → jobs L t g ≤ 2_179_682
   jobs-few L pos d go tl gl w =
       let long : L ≤ 65537 * t .period = omega (arith, lt-div-mul-add {a = L} {b = t .period} (omega arith), mul-le-mul-right (t .period) w) in

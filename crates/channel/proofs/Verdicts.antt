@@ -7,7 +7,7 @@ use Rattle.channel.specs.declared.Verdict.the-variants.{Fine, InitialAbo
 use Rattle.channel.specs.Side.{Sound}
 use Rattle.channel.specs.Channel.{Channel, Balanced, Choice, Breaks}
 use Rattle.channel.specs.Judge.{TooLong, Means}
-use Rattle.channel.proofs.Exact.{exact, hungry, full, too-full, underflow-breaks, overflow-breaks, unbalanced}
+use Rattle.channel.proofs.Exact.{exact, passes-balanced, hungry, full, too-full, underflow-breaks, overflow-breaks, unbalanced}
 use Rattle.channel.proofs.Judged.{means-judge}
 
 module _ (ch : Channel) (okp : Sound (ch .producer)) (okc : Sound (ch .consumer)) where
@@ -18,8 +18,10 @@ module _ (ch : Channel) (okp : Sound (ch .producer)) (okc : Sound (ch .consumer)
   -- demand 2: where the window is not too long, the verdict is `Fine` exactly where no choice breaks the channel
   pub fine-exact : (v : Verdict) → Means ch v → ¬ TooLong ch → (v ≡ Fine) ↔ ((c : Choice ch) → ¬ Breaks ch c)
   fine-exact v m short = (
-    λ e. exact ch okp okc .0 (subst (Means ch) e m .1),
-    λ none. means-one v Fine m (short, exact ch okp okc .1 none),
+    λ e. let f = subst (Means ch) e m in
+        exact ch okp okc .0 (record { fits = f .0; no-underflow = f .3; no-overflow = f .4 }),
+    λ none. let p = exact ch okp okc .1 none in
+        means-one v Fine m (p .fits, passes-balanced ch okp okc p, short, p .no-underflow, p .no-overflow),
   )
 
   -- a balanced channel whose window is too long gives 15

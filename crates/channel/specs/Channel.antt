@@ -15,19 +15,19 @@ pub record Channel : Type 0 where
   pub initial : ℕ
   pub size : ℕ
 
--- in the long run as much is put as taken, in whole products
+-- Balance: the sum of the production cycle × length of the consumption cycle × T_consumer is the sum of the consumption cycle × length of the production cycle × T_producer.
 abbrev pub Balanced : Side → Side → Type 0
 Balanced p c = turn p * length (c .cycle) * c .period ≡ turn c * length (p .cycle) * p .period
 
--- Underflow is broken at consumer job k: initial + X(P) < Y(k + 1), P being the producer jobs that have ended by k's release. Overflow is broken at producer job j: initial + X(j + 1) − Y(Q) > size, Q being the consumer jobs that have ended by j's release.
+-- Underflow is broken at consumer job k: initial + X(P) < Y(k + 1), P being the number of producer jobs that have ended by k's release.
 abbrev pub Underflows : Channel → ℕ → Type 0
 Underflows ch k = Short (ch .consumer) (ch .producer) (ch .initial) k
 
--- broken at producer job j
+-- Overflow is broken at producer job j: initial + X(j + 1) − Y(Q) > size, Q being the number of consumer jobs that have ended by j's release.
 abbrev pub Overflows : Channel → ℕ → Type 0
 Overflows ch j = ch .size + total (ch .consumer) (ended (ch .consumer) (release (ch .producer) j)) < ch .initial + total (ch .producer) (suc j)
 
--- The tests that the rules make, over every job without end.
+-- The tests 13, 16 and 17 find nothing, over every job without end. Balance, test 14, follows: `passes-balanced` (proofs/Exact).
 pub record Passes (ch : Channel) : Type 0 where
   pub fits : ch .initial ≤ ch .size
   pub no-underflow : (k : ℕ) → ¬ Underflows ch k

@@ -21,11 +21,11 @@ pub record Sound (s : Side) : Type 0 where
   pub fits : s .window ≤ s .period
   pub some-rate : 1 ≤ length (s .cycle)
 
--- Job m's window is the ticks from its release up to, not including, its end.
+-- the tick in which job m is released: offset + m × period
 abbrev pub release : Side → ℕ → ℕ
 release s m = s .offset + m * s .period
 
--- the first tick behind a job's window
+-- the first tick behind job m's window, which is the ticks from its release up to, not including, this
 abbrev pub end : Side → ℕ → ℕ
 end s m = release s m + s .window
 
@@ -54,10 +54,10 @@ ended s t = sum (λ m. cond (leb (end s m) t) 1 0) t
 abbrev pub Short : Side → Side → ℕ → ℕ → Type 0
 Short taker giver stock k = stock + total giver (ended giver (release taker k)) < total taker (suc k)
 
--- The number of jobs of the taker whose tests decide all, where L is a common multiple of the spans: from job `first` on both are past their prefixes, and then one L is enough.
+-- From this job of the taker on, both sides are past their prefixes.
 abbrev pub first : Side → Side → ℕ
 first taker giver = length (taker .prefix) + (end giver (length (giver .prefix)) - taker .offset) / taker .period + 1
 
--- the jobs up to there, and one L more
+-- The number of jobs of the taker whose tests decide all, where L is a common multiple of the spans: those up to `first`, and one L more.
 abbrev pub jobs : ℕ → Side → Side → ℕ
 jobs L taker giver = first taker giver + L / taker .period

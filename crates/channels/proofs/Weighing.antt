@@ -118,10 +118,8 @@ module _ (ch : Channel) (ok : Weighable ch) where
 
               pub fine : o ≡ search.the-variants.Nothing → Means ch verdict.the-variants.Fine
               fine eo =
-                  let f = subst (λ v. Decides (ch .producer) (ch .consumer) (ch .size - ch .initial) v) eo ov in (
-                    not-long,
-                    record { fits = fits; no-underflow = never; no-overflow = λ j v. f j (over-short ch fits j v) },
-                  )
+                  let f = subst (λ v. Decides (ch .producer) (ch .consumer) (ch .size - ch .initial) v) eo ov in
+                  (fits, bal, not-long, never, λ j v. f j (over-short ch fits j v))
 
 -- ---- a channel in memory
 

@@ -20,7 +20,6 @@ use Rattle.channel.specs.declared.Verdict.{Verdict}
 use Rattle.channel.specs.Judge.{TooLong, Means, judge}
 use Rattle.numbers.proofs.Sums.{cases}
 use Rattle.numbers.proofs.Least.{least-is}
-use Rattle.channel.proofs.Exact.{passes-balanced}
 use Rattle.channel.proofs.Judged.{judge-means}
 use Rattle.graph.specs.declared.Relation.{Relation}
 use Rattle.graph.specs.Model.{Rates, Graph, count, task, link, relation}
@@ -150,16 +149,16 @@ stands channels.WindowTooLong = (15, 0)
 stands (channels.Underflow k) = (16, k)
 stands (channels.Overflow j) = (17, j)
 
-clear : (ch : Channel) → Sound (ch .producer) → Sound (ch .consumer) → (v : Verdict) → Means ch v → Clear ch (stands v .0) (stands v .1)
-clear ch p c channels.Fine m =
+clear : (ch : Channel) (v : Verdict) → Means ch v → Clear ch (stands v .0) (stands v .1)
+clear ch channels.Fine m =
     record {
-      fits = λ x. m .1 .fits;
-      balance = λ x. passes-balanced ch p c (m .1);
-      short = λ x. m .0;
-      no-under = λ k x. m .1 .no-underflow k;
-      no-over = λ k x. m .1 .no-overflow k;
+      fits = λ x. m .0;
+      balance = λ x. m .1;
+      short = λ x. m .2;
+      no-under = λ k x. m .3 k;
+      no-over = λ k x. m .4 k;
     }
-clear ch p c channels.InitialAboveSize m =
+clear ch channels.InitialAboveSize m =
     record {
       fits = λ x. absurd (irreflexive (13 ∷ 0 ∷ []) x);
       balance = never 14 13 0 0 (omega arith);
@@ -167,7 +166,7 @@ clear ch p c channels.InitialAboveSize m =
       no-under = λ k. never 16 13 k 0 (omega arith);
       no-over = λ k. never 17 13 k 0 (omega arith);
     }
-clear ch p c channels.Unbalanced m =
+clear ch channels.Unbalanced m =
     record {
       fits = λ x. m .0;
       balance = λ x. absurd (irreflexive (14 ∷ 0 ∷ []) x);
@@ -175,7 +174,7 @@ clear ch p c channels.Unbalanced m =
       no-under = λ k. never 16 14 k 0 (omega arith);
       no-over = λ k. never 17 14 k 0 (omega arith);
     }
-clear ch p c channels.WindowTooLong m =
+clear ch channels.WindowTooLong m =
     record {
       fits = λ x. m .0;
       balance = λ x. m .1;
@@ -183,7 +182,7 @@ clear ch p c channels.WindowTooLong m =
       no-under = λ k. never 16 15 k 0 (omega arith);
       no-over = λ k. never 17 15 k 0 (omega arith);
     }
-clear ch p c (channels.Underflow i) m =
+clear ch (channels.Underflow i) m =
     record {
       fits = λ x. m .0;
       balance = λ x. m .1;
@@ -191,7 +190,7 @@ clear ch p c (channels.Underflow i) m =
       no-under = λ k x. m .3 .1 k (before 16 k i x);
       no-over = λ k. never 17 16 k i (omega arith);
     }
-clear ch p c (channels.Overflow i) m =
+clear ch (channels.Overflow i) m =
     record {
       fits = λ x. m .0;
       balance = λ x. m .1;
@@ -270,7 +269,7 @@ module _ (g : Graph) (room : ℕ) where
 
     -- a verdict on channel c is the earliest refusal of that channel
     pub channel-finds : (c : ℕ) → c < length (g .channels) → (v : Verdict) → Means (channel g c) v → Earliest g room (At 13 c) (refusal c v)
-    channel-finds c l v m = verdict-finds c l v m (clear (channel g c) (sound-producer c l) (sound-consumer c l) v m)
+    channel-finds c l v m = verdict-finds c l v m (clear (channel g c) v m)
 
     pub finds : Earliest g room (Upto 14) (found g room)
     unfolding found
