@@ -5,7 +5,7 @@ use Prim.Native.Nat.{ℕ, _≤_}
 use lib.ListN.{take}
 use Rattle.numbers.specs.Lists.{All}
 use Rattle.graph.specs.declared.Task.{Task}
-use Rattle.graph.specs.Model.{Graph, task-of}
+use Rattle.graph.specs.Model.{Graph, max-tasks, task-of}
 use Rattle.graph.specs.Memory.{MemoryLink, view-link}
 use Rattle.format.specs.Ranges.{TaskRange}
 use Rattle.channel.specs.declared.Verdict.{Verdict}
@@ -30,9 +30,9 @@ pub record Tells (ts : List Task) (c : ℕ) (link : MemoryLink) (r : Outcome) : 
   pub told : refusal r ≡ rules.refusal c verdict
   pub means : Means (between ts link) verdict
 
--- n tasks in range
+-- the first n tasks are in range, and no more than there may be
 pub record Sound (ts : List Task) (n : ℕ) : Type 0 where
-  pub few : n ≤ 32
+  pub few : n ≤ max-tasks
   pub ranged : All TaskRange (take n ts)
 
 -- a graph of these tasks and channels

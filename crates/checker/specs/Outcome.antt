@@ -26,7 +26,7 @@ abbrev pub Times : Graph → List ℕ → Outcome → Type 0
 Times g l Passed = (i : ℕ) → i < count g → IsResponse (machine g) i (getD l i 0)
 Times g l (Refused reply) = Unit {0}
 
--- what all tests found in the graph
+-- what all tests, those of the stages below 14, found in the graph
 pub record Tested (g : Graph) (room : ℕ) (r : Timing) : Type 0 where
   pub earliest : Earliest g room (Upto 14) (refusal (r .outcome))
   pub times : Times g (r .figures) (r .outcome)

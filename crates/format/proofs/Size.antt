@@ -1,4 +1,4 @@
--- A formed graph's file is made of bytes, and how long it can be. Assumes nothing.
+-- How long a formed graph's file, and so any file that the reader takes, can be; and that such a file is made of bytes. Assumes nothing.
 use mathlib.Core.Path.{_≡_, refl, ap, sym, subst, _∙_}
 use mathlib.Core.List.{List, [], _∷_, _++_, map}
 use Prim.Native.Nat.{ℕ, suc, _+_, _*_, _≤_, _<_}

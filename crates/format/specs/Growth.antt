@@ -8,7 +8,7 @@ use Rattle.graph.specs.declared.Task.{Task}
 use Rattle.graph.specs.declared.Relation.{Relation}
 use Rattle.graph.specs.Model.{Rates, Link, Graph, bare}
 
--- a graph with other tasks, channels or relations
+-- a graph with other tasks
 abbrev pub with-tasks : Graph → List Task → Graph
 with-tasks g ts = record { tasks = ts; channels = g .channels; relations = g .relations }
 
@@ -20,11 +20,11 @@ with-channels g cs = record { tasks = g .tasks; channels = cs; relations = g .re
 abbrev pub with-relations : Graph → List Relation → Graph
 with-relations g rs = record { tasks = g .tasks; channels = g .channels; relations = rs }
 
--- Side 0 is production, 1 consumption; part 0 is prefix, 1 cycle.
+-- the list of a part: 0 is prefix, 1 cycle
 abbrev pub part-of : Rates → ℕ → List ℕ
 part-of r part = cond (eqb part 0) (r .prefix) (r .cycle)
 
--- the rates of a side
+-- the rates of a side: 0 is production, 1 consumption
 abbrev pub side-of : Link → ℕ → Rates
 side-of c side = cond (eqb side 0) (c .production) (c .consumption)
 
@@ -36,14 +36,14 @@ list-of c side part = part-of (side-of c side) part
 abbrev pub entries : Graph → ℕ → ℕ → ℕ → List ℕ
 entries g channel side part = list-of (getD (g .channels) channel (bare 0 0 0 0)) side part
 
--- One entry more at the end of a list of rates.
+-- the rates with one entry more at the end of a part
 abbrev pub push-part : Rates → ℕ → ℕ → Rates
 push-part r part x =
     cond (eqb part 0)
     (record { prefix = r .prefix ++ (x ∷ []); cycle = r .cycle })
     (record { prefix = r .prefix; cycle = r .cycle ++ (x ∷ []) })
 
--- a channel with other rates
+-- a channel with other rates on both sides
 abbrev pub with-rates : Link → Rates → Rates → Link
 with-rates c production consumption =
     record {

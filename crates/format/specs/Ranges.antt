@@ -19,7 +19,7 @@ pub record TaskRange (t : Task) : Type 0 where
   pub some-priority : 1 ≤ t .priority
   pub priority : t .priority ≤ 255
 
--- a number of tokens
+-- any tokens: 65,535 is the most that their two bytes hold
 abbrev pub Tokens : ℕ → Type 0
 Tokens x = x ≤ 65535
 
@@ -31,7 +31,7 @@ pub record RatesRange (r : Rates) : Type 0 where
   pub prefix-tokens : All Tokens (r .prefix)
   pub cycle-tokens : All Tokens (r .cycle)
 
--- among so many tasks
+-- the ranges of a channel's fields and rates, among so many tasks
 pub record LinkRange (count : ℕ) (c : Link) : Type 0 where
   pub producer : c .producer < count
   pub consumer : c .consumer < count
@@ -50,7 +50,7 @@ pub record RelationRange (count : ℕ) (r : Relation) : Type 0 where
   pub some-d : 1 ≤ r .d
   pub d : r .d ≤ million
 
--- the whole graph
+-- all counts and fields of the graph are in range, with a task and an entry in every cycle
 pub record Ranged (g : Graph) : Type 0 where
   pub some-task : 1 ≤ length (g .tasks)
   pub few-tasks : length (g .tasks) ≤ max-tasks

@@ -11,7 +11,7 @@ use Rattle.graph.specs.declared.Relation.{Relation}
 
 -- ---- numbers
 
--- v in w bytes, big-endian; and the number that bytes write
+-- v in w bytes, big-endian
 unfoldable pub be : ℕ → ℕ → List ℕ
 be zero v = []
 be (suc w) v = v / 256 ^ w ∷ be w (v % 256 ^ w)
@@ -21,16 +21,16 @@ unfoldable pub number : List ℕ → ℕ
 number [] = 0
 number (b ∷ bs) = b * 256 ^ length bs + number bs
 
--- two's complement in 4 bytes
+-- a signed number as four bytes hold it, in two's complement
 abbrev pub wrap : ℤ → ℕ
 wrap (pos n) = n
 wrap (negsuc n) = 4294967295 - n
 
--- the signed number of four bytes
+-- the signed number that four bytes hold
 abbrev pub unwrap : ℕ → ℤ
 unwrap w = cond (ltb w 2147483648) (pos w) (negsuc (4294967295 - w))
 
--- numbers in bytes of the widths ws, one behind the other; and back
+-- numbers in bytes of these widths, one behind the other
 unfoldable pub join : List ℕ → List ℕ → List ℕ
 join [] vs = []
 join (w ∷ ws) [] = []
@@ -67,7 +67,7 @@ kind-of k =
     (cond (eqb k 3) (some a-rate)
     (cond (eqb k 4) (some a-relation) none)))
 
--- the widths of the fields in order, and the length of the body
+-- the widths of the fields in order: the table of document 01
 abbrev pub widths : Kind → List ℕ
 widths a-task = 4 ∷ 4 ∷ 4 ∷ 4 ∷ 1 ∷ []
 widths a-channel = 1 ∷ 1 ∷ 4 ∷ 4 ∷ []
@@ -87,21 +87,21 @@ pub data Record : Type 0 where
   rate : (channel side part tokens : ℕ) → Record
   relation : Relation → Record
 
--- its kind
+-- a record's kind
 abbrev pub kind : Record → Kind
 kind (task t) = a-task
 kind (channel p c i s) = a-channel
 kind (rate c s p x) = a-rate
 kind (relation r) = a-relation
 
--- the fields in order
+-- a record's fields in order
 abbrev pub values : Record → List ℕ
 values (task t) = t .period ∷ t .offset ∷ t .deadline ∷ t .worst ∷ t .priority ∷ []
 values (channel p c i s) = p ∷ c ∷ i ∷ s ∷ []
 values (rate c s p x) = c ∷ s ∷ p ∷ x ∷ []
 values (relation r) = r .p ∷ r .q ∷ r .n ∷ wrap (r .phi) ∷ r .d ∷ []
 
--- field i
+-- field i of the fields in order
 abbrev pub field : ℕ → List ℕ → ℕ
 field i vs = getD vs i 0
 
@@ -114,11 +114,11 @@ record-of a-rate vs = rate (field 0 vs) (field 1 vs) (field 2 vs) (field 3 vs)
 record-of a-relation vs =
     relation (record { p = field 0 vs; q = field 1 vs; n = field 2 vs; phi = unwrap (field 3 vs); d = field 4 vs })
 
--- the bytes of a record, and the record that a body holds
+-- a record's bytes behind its kind
 abbrev pub body : Record → List ℕ
 body r = join (widths (kind r)) (values r)
 
--- the kind byte and the body
+-- a record's bytes: the kind, then the body
 abbrev pub encode : Record → List ℕ
 encode r = code (kind r) ∷ body r
 
@@ -131,11 +131,11 @@ unfoldable pub encodes : List Record → List ℕ
 encodes [] = []
 encodes (r ∷ rs) = encode r ++ encodes rs
 
--- What never goes down: the kind and, among rates, channel, side and part, as the digits of one number.
+-- four bytes as the digits of one number, which compares them from left to right
 abbrev pub digits : ℕ → ℕ → ℕ → ℕ → ℕ
 digits k a b c = k * 16777216 + a * 65536 + b * 256 + c
 
--- kind, channel, side and part of a record as one number; only rates have the last three
+-- what never goes down through a file: the kind and, among rates, channel, side and part
 unfoldable pub rank : Record → ℕ
 rank (task t) = digits 1 0 0 0
 rank (channel p c i s) = digits 2 0 0 0

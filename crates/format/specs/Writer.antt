@@ -10,7 +10,7 @@ use Rattle.graph.specs.Model.{Rates, Link, Graph, max-tasks, max-channels, max-
 use Rattle.format.specs.Record.{Record, task, channel, rate, relation, encodes}
 use Rattle.format.specs.Reader.{holds, ranges, InRange, cycles, Whole, first-zero}
 
--- the records of a graph in the order of a file
+-- the record of a channel
 abbrev pub head : Link → Record
 head c = channel (c .producer) (c .consumer) (c .initial) (c .size)
 
@@ -27,7 +27,7 @@ unfoldable pub rates-from : ℕ → List Link → List Record
 rates-from i [] = []
 rates-from i (c ∷ cs) = rates-of i c ++ rates-from (suc i) cs
 
--- all records: tasks, channels, rates, relations
+-- all records in the order of a file: tasks, channels, rates, relations
 unfoldable pub records : Graph → List Record
 records g = map task (g .tasks) ++ (map head (g .channels) ++ (rates-from 0 (g .channels) ++ map relation (g .relations)))
 
@@ -60,7 +60,7 @@ pub record Formed (g : Graph) : Type 0 where
   pub counts : Counts g
   pub whole : Whole g
 
--- the same as a test
+-- `Few` as a test
 abbrev pub few : Rates → Bool
 few r = leb (length (r .prefix)) max-prefix && leb (length (r .cycle)) max-cycle
 
@@ -69,7 +69,7 @@ abbrev pub is-none : Option ℕ → Bool
 is-none none = true
 is-none (some i) = false
 
--- the whole test
+-- `Formed` as a test
 unfoldable pub formed : Graph → Bool
 formed g =
     all (λ r. all holds (ranges g r)) (records g)

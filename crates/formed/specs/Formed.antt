@@ -38,7 +38,7 @@ pub record SideFormed (s : MemoryRates) : Type 0 where
   pub padded : s ≡ laid-rates (view-rates s)
   pub ranged : RatesRange (view-rates s)
 
--- of a channel among so many tasks
+-- a channel with zeros behind its lists, and in range among so many tasks
 pub record ChannelFormed (count : ℕ) (c : MemoryLink) : Type 0 where
   pub padded : c ≡ laid-link (view-link c)
   pub ranged : LinkRange count (view-link c)

@@ -5,9 +5,9 @@ use lib.ListN.{length, take, replicate}
 use Rattle.graph.specs.declared.Side as side
 use Rattle.graph.specs.declared.Channel as channel
 use Rattle.graph.specs.declared.Graph as graph
-use Rattle.graph.specs.Model.{Rates, Link, Graph, empty, no-task, bare, no-relation}
+use Rattle.graph.specs.Model.{Rates, Link, Graph, empty, max-tasks, max-channels, max-relations, max-prefix, max-cycle, no-task, bare, no-relation}
 
--- the graph's own struct, and those of a channel and a side
+-- a graph in memory: the struct that the code has
 abbrev pub Memory : Type 0
 Memory = graph.Graph
 
@@ -54,7 +54,7 @@ pad n z xs = xs ++ replicate (n - length xs) z
 
 -- a side laid into its arrays
 abbrev pub laid-rates : Rates → MemoryRates
-laid-rates r = record { prefix = pad 16 0 (r .prefix); plen = length (r .prefix); cycle = pad 32 0 (r .cycle); clen = length (r .cycle) }
+laid-rates r = record { prefix = pad max-prefix 0 (r .prefix); plen = length (r .prefix); cycle = pad max-cycle 0 (r .cycle); clen = length (r .cycle) }
 
 -- a channel laid into memory
 abbrev pub laid-link : Link → MemoryLink
@@ -76,11 +76,11 @@ zero-link = laid-link (bare 0 0 0 0)
 unfoldable pub laid : Graph → Memory
 laid g =
     record {
-      tasks = pad 32 no-task (g .tasks);
+      tasks = pad max-tasks no-task (g .tasks);
       ntasks = length (g .tasks);
-      channels = pad 64 zero-link (map laid-link (g .channels));
+      channels = pad max-channels zero-link (map laid-link (g .channels));
       nchannels = length (g .channels);
-      relations = pad 64 no-relation (g .relations);
+      relations = pad max-relations no-relation (g .relations);
       nrelations = length (g .relations);
     }
 

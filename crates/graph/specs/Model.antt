@@ -6,12 +6,12 @@ use lib.ListN.{length, getD}
 use Rattle.graph.specs.declared.Task.{Task}
 use Rattle.graph.specs.declared.Relation.{Relation}
 
--- the rates of one side of a channel
+-- the rates of one side of a channel: the prefix first, then the cycle over and over
 pub record Rates : Type 0 where
   pub prefix : List ℕ
   pub cycle : List ℕ
 
--- a channel
+-- a channel: the numbers of its two tasks, the initial fill, the size, and the rates of both sides
 pub record Link : Type 0 where
   pub producer : ℕ
   pub consumer : ℕ
@@ -30,7 +30,9 @@ pub record Graph : Type 0 where
 abbrev pub empty : Graph
 empty = record { tasks = []; channels = []; relations = [] }
 
--- The limits.
+-- ---- the limits
+
+-- at most so many tasks
 abbrev pub max-tasks : ℕ
 max-tasks = 32
 
@@ -54,7 +56,9 @@ max-cycle = 32
 abbrev pub million : ℕ
 million = 1000000
 
--- What stands past the end of a list: all zero.
+-- ---- what stands past the end of a list: all zero
+
+-- no task
 abbrev pub no-task : Task
 no-task = record { period = 0; offset = 0; deadline = 0; worst = 0; priority = 0 }
 
@@ -71,7 +75,9 @@ bare producer consumer initial size =
 abbrev pub no-relation : Relation
 no-relation = record { p = 0; q = 0; n = 0; phi = pos 0; d = 0 }
 
--- The entries by their numbers.
+-- ---- the entries by their numbers
+
+-- how many tasks there are
 abbrev pub count : Graph → ℕ
 count g = length (g .tasks)
 

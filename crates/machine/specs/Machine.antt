@@ -68,7 +68,7 @@ module _ (ts : Tasks) (q : ℕ) (needs : ℕ → ℕ → ℕ) (runs : ℕ → Sl
 
 -- ---- the response rule
 
--- j is a task of i's processor with a smaller priority number than i's
+-- j interferes with i: it is a task of i's processor, with a smaller priority number
 abbrev pub above : Tasks → ℕ → ℕ → Bool
 above ts i j = eqb (ts .processor j) (ts .processor i) && ltb (ts .priority j) (ts .priority i)
 

@@ -13,7 +13,7 @@ use Rattle.record.specs.declared.Front.{Front}
 use Rattle.record.specs.declared.Front.the-variants.{Task, Channel, Rate, Relation, Stopped}
 use Rattle.record.specs.Heads.{headed, entered}
 
--- the answer to a question
+-- a test's answer: P holds where it is true and not where it is false
 abbrev pub Decides : Bool → Type 0 → Type 0
 Decides true P = P
 Decides false P = ¬ P
@@ -37,11 +37,11 @@ Judges s r (Channel h) = (r ≡ headed h) × Good s r
 Judges s r (Rate e) = (r ≡ entered e) × (s .floor ≤ rank r) × InRange (s .graph) r
 Judges s r (Relation l) = (r ≡ relation l) × Good s r
 
--- what stands at byte `at` of the file: the tests in order, the first that fires or the record
+-- what stands at a kind byte with these bytes behind it: the first test that fires, or the record
 abbrev pub TellsOf : State → Option Kind → List ℕ → Front → Type 0
 TellsOf s none bs f = f ≡ Stopped Unknown
 TellsOf s (some k) bs f = ((length bs < size k) × (f ≡ Stopped Cut)) ⊎ ((size k ≤ length bs) × Judges s (decode k (take (size k) bs)) f)
 
--- what stands at the place is what the front says
+-- what stands at byte `at` of the file
 abbrev pub Tells : List ℕ → State → ℕ → Front → Type 0
 Tells file s at f = TellsOf s (kind-of (getD file at 0)) (drop (suc at) file) f

@@ -15,15 +15,15 @@ named (some a-channel) = Channel
 named (some a-rate) = Rate
 named (some a-relation) = Relation
 
--- the length of the body behind it
+-- the length of the body behind it, 0 of an unknown kind
 abbrev pub length-of : Option Kind → ℕ
 length-of none = 0
 length-of (some k) = size k
 
--- the records of a channel and of a rate
+-- the record of a channel, by the struct of its fields
 abbrev pub headed : Head → Record
 headed h = channel (h .producer) (h .consumer) (h .initial) (h .size)
 
--- the record of an entry
+-- the record of a rate, by the struct of its fields
 abbrev pub entered : Entry → Record
 entered e = rate (e .channel) (e .side) (e .part) (e .tokens)

@@ -9,7 +9,7 @@ use Rattle.graph.specs.Model.{task-of}
 use Rattle.relations.specs.declared.Named.{Named}
 use Rattle.relations.specs.declared.Named.the-variants.{At, Nothing}
 
--- a, or nothing
+-- a where the test passes, otherwise nothing
 abbrev pub when : Bool → Named → Named
 when true a = a
 when false a = Nothing

@@ -11,7 +11,7 @@ use Rattle.graph.specs.Model.{Graph, million}
 abbrev pub Equations : ℕ → ℕ → ℕ → ℕ → ℕ → ℤ → ℕ → Type 0
 Equations tp op tq oq n phi d = (d * tp ≡ n * tq) × (pos n *ℤ (pos oq -ℤ pos op) ≡ phi *ℤ pos tp)
 
--- all in range
+-- periods, offsets, n, φ and d in range
 pub record Small (tp op tq oq n : ℕ) (phi : ℤ) (d : ℕ) : Type 0 where
   pub tp-in : tp ≤ million
   pub op-in : op ≤ million

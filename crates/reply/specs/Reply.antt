@@ -8,7 +8,7 @@ use Rattle.reply.specs.declared.Reply.the-variants.{Accepted, UnknownKin
 abbrev pub three : ℕ → ℕ → ℕ → Numbers
 three number place job = record { number = number; place = place; job = job }
 
--- the table of document 01
+-- number, place and job of each reply: the table of document 01
 abbrev pub numbered : Reply → Numbers
 numbered (Accepted tasks) = three 0 tasks 0
 numbered (UnknownKind at) = three 1 at 0
@@ -31,14 +31,14 @@ numbered (Overflow channel job) = three 17 channel job
 numbered NoFile = three 18 0 0
 numbered (ShortOutput needed) = three 19 needed 0
 
--- its number
+-- a reply's number
 abbrev pub number : Reply → ℕ
 number r = numbered r .number
 
--- its place
+-- a reply's place
 abbrev pub place : Reply → ℕ
 place r = numbered r .place
 
--- its job
+-- a reply's job
 abbrev pub job : Reply → ℕ
 job r = numbered r .job

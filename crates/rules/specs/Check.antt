@@ -47,7 +47,7 @@ refusal c (channels.Overflow j) = some (Overflow c j)
 abbrev pub when : Bool → Reply → Option Reply
 when b r = cond b (some r) none
 
--- the first of two
+-- the first of two, if there is one
 abbrev pub or : Option Reply → Option Reply → Option Reply
 or none b = b
 or (some r) b = some r
@@ -57,7 +57,7 @@ unfoldable pub first : (ℕ → Option Reply) → ℕ → Option Reply
 first f zero = none
 first f (suc n) = or (first f n) (f n)
 
--- the tests of each stage
+-- test 8
 abbrev pub same-priorities : Graph → Option Reply
 same-priorities g = first (λ i. when (seen g i) (SamePriority i)) (count g)
 

@@ -20,14 +20,14 @@ pub record FileAnswers (file : List ℕ) (room : ℕ) (r : Reply) (l : List ℕ)
   pub reads : files.Answers file read
   pub judged : Judged read room r l
 
--- the same computed
+-- the reply computed, by what the reader answers
 abbrev pub judged-reply : files.Answer → ℕ → Reply
 judged-reply (files.taken g) room = check.reply g room
 judged-reply (files.stopped t place) room = files.reply (files.stopped t place)
 judged-reply files.no-task room = files.reply files.no-task
 judged-reply (files.no-entry place) room = files.reply (files.no-entry place)
 
--- and its figures
+-- the figures computed, by what the reader answers
 abbrev pub judged-report : files.Answer → ℕ → List ℕ
 judged-report (files.taken g) room = check.report g room
 judged-report (files.stopped t place) room = []

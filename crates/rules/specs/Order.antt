@@ -6,7 +6,7 @@ use Prim.Native.Nat.{ℕ, min, _<_}
 use Rattle.reply.specs.declared.Reply.{Reply}
 use Rattle.reply.specs.Reply.{number, place, job}
 
--- The order of the tests: 8 to 12 one after the other, each by place; then channel by channel 13 to 17; then by job.
+-- a reply's stage: 8 to 12 are tested one after the other, then 13 to 17 together, channel by channel
 abbrev pub stage : Reply → ℕ
 stage r = min (number r) 13
 

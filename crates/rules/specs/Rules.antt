@@ -18,7 +18,7 @@ use Rattle.reply.specs.declared.Reply.the-variants.{Accepted, SamePriority, Sho
 use Rattle.reply.specs.Reply.{number}
 use Rattle.rules.specs.Order.{Earlier}
 
--- equations 7 and 8
+-- The relation is true: d × T_p = n × T_q, and n × (O_q − O_p) = φ × T_p, equations 7 and 8 of source 004.
 pub record Holds (g : Graph) (r : Relation) : Type 0 where
   pub periods : r .d * task g (r .p) .period ≡ r .n * task g (r .q) .period
   pub phases : pos (r .n) *ℤ (pos (task g (r .q) .offset) -ℤ pos (task g (r .p) .offset)) ≡ r .phi *ℤ pos (task g (r .p) .period)

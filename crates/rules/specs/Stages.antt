@@ -8,7 +8,9 @@ use Rattle.graph.specs.Model.{Graph}
 use Rattle.rules.specs.Order.{stage, Earlier}
 use Rattle.rules.specs.Rules.{Refuses}
 
--- the replies of one stage and place, of one stage and the places below m, and of the stages below n
+-- ---- sets of replies
+
+-- of stage n at place i
 abbrev pub At : ℕ → ℕ → Reply → Type 0
 At n i s = (stage s ≡ n) × (place s ≡ i)
 
@@ -23,6 +25,8 @@ Upto n s = stage s < n
 -- of stage n
 abbrev pub In : ℕ → Reply → Type 0
 In n s = stage s ≡ n
+
+-- ---- the earliest
 
 -- of the replies in D none refuses, or r is the earliest that does
 abbrev pub Earliest : Graph → ℕ → (Reply → Type 0) → Option Reply → Type 0

@@ -1,4 +1,4 @@
--- The terms of the rules: a job's cost, who interferes, response times, windows, and the sides of a channel. Assumes nothing.
+-- The terms of the rules: a job's cost and processor, response times, windows, and the sides of a channel. Assumes nothing.
 use Prim.Native.Nat.{ℕ, suc, _≤_, _<_}
 use lib.Dec.{leb}
 use lib.ListN.{length}
@@ -19,7 +19,7 @@ cost-of t = t .worst
 abbrev pub cost : Graph → ℕ → ℕ
 cost g i = cost-of (task g i)
 
--- the processor that it is bound to
+-- the processor that task i is bound to: there is one
 abbrev pub processor : Graph → ℕ → ℕ
 processor g i = 0
 

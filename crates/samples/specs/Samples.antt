@@ -17,14 +17,17 @@ pub record Sample : Type 0 where
 
 -- ---- records, byte by byte; numbers that differ between samples are below 256
 
+-- a task
 abbrev task : ℕ → ℕ → ℕ → ℕ → ℕ → List ℕ
 task period offset deadline worst priority =
     0x01 ∷ 0 ∷ 0 ∷ 0 ∷ period ∷ 0 ∷ 0 ∷ 0 ∷ offset ∷ 0 ∷ 0 ∷ 0 ∷ deadline ∷ 0 ∷ 0 ∷ 0 ∷ worst ∷ priority ∷ []
 
+-- a channel
 abbrev channel : ℕ → ℕ → ℕ → ℕ → List ℕ
 channel producer consumer initial size =
     0x02 ∷ producer ∷ consumer ∷ 0 ∷ 0 ∷ 0 ∷ initial ∷ 0 ∷ 0 ∷ 0 ∷ size ∷ []
 
+-- a rate
 abbrev rate : ℕ → ℕ → ℕ → ℕ → List ℕ
 rate channel side part tokens = 0x03 ∷ channel ∷ side ∷ part ∷ 0 ∷ tokens ∷ []
 
@@ -67,9 +70,11 @@ loop initial size = task 5 0 5 1 1 ++ (channel 0 0 initial size ++ rates 1 1)
 
 -- ---- the table
 
+-- a file that is refused, by number, place and job
 abbrev refused : List ℕ → ℕ → ℕ → ℕ → Sample
 refused file number place job = record { file = file; room = 32; numbers = three number place job; figures = [] }
 
+-- a file that is accepted, with the number of its tasks and R of each
 abbrev accepted : List ℕ → ℕ → List ℕ → Sample
 accepted file count figures = record { file = file; room = 32; numbers = three 0 count 0; figures = figures }
 

@@ -10,6 +10,6 @@ use Rattle.rules.specs.Terms.{cost-of}
 abbrev pub Before : List Task → ℕ → Type 0
 Before ts i = (j : ℕ) × (j < i) × (task-of ts j .priority ≡ task-of ts i .priority)
 
--- ⌊ C × 1,000,000 / T ⌋
+-- a task's share of the load in millionths: ⌊ C × 1,000,000 / T ⌋
 unfoldable pub share : Task → ℕ
 share t = cost-of t * 1_000_000 / t .period

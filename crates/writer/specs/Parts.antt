@@ -3,7 +3,7 @@ use mathlib.Core.Path.{_≡_}
 use mathlib.Core.List.{List, _++_, map}
 use Prim.Native.Nat.{ℕ, _+_, _≤_}
 use lib.ListN.{length, take, drop}
-use Rattle.graph.specs.Model.{Rates}
+use Rattle.graph.specs.Model.{Rates, max-prefix, max-cycle}
 use Rattle.graph.specs.Memory.{MemoryLink, MemoryRates, view-link}
 use Rattle.format.specs.Record.{Record, channel, rate}
 use Rattle.format.specs.Writer.{rates-from}
@@ -30,11 +30,11 @@ sideRecords i side r = map (rate i side 0) (r .prefix) ++ map (rate i side 1) (r
 abbrev pub ratesOf : ℕ → List MemoryLink → List Record
 ratesOf n cs = rates-from 0 (map view-link (take n cs))
 
--- the counts of a side, and of both sides of a channel, are within the places
+-- the counts of a side are within the limits and within its places
 pub record SideFits (s : MemoryRates) : Type 0 where
-  pub few : s .plen ≤ 16
+  pub few : s .plen ≤ max-prefix
   pub prefix : s .plen ≤ length (s .prefix)
-  pub short : s .clen ≤ 32
+  pub short : s .clen ≤ max-cycle
   pub cycle : s .clen ≤ length (s .cycle)
 
 -- the same of both sides of a channel
