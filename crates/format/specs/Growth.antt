@@ -12,11 +12,11 @@ use Rattle.graph.specs.Model.{Rates, Link, Graph, bare}
 abbrev pub with-tasks : Graph → List Task → Graph
 with-tasks g ts = record { tasks = ts; channels = g .channels; relations = g .relations }
 
--- with other channels
+-- a graph with other channels
 abbrev pub with-channels : Graph → List Link → Graph
 with-channels g cs = record { tasks = g .tasks; channels = cs; relations = g .relations }
 
--- with other relations
+-- a graph with other relations
 abbrev pub with-relations : Graph → List Relation → Graph
 with-relations g rs = record { tasks = g .tasks; channels = g .channels; relations = rs }
 

@@ -38,7 +38,7 @@ Holds (names x n) = (x < n) × (x < 256)
 Holds (signed (pos n) high) = n ≤ high
 Holds (signed (negsuc n) high) = n < high
 
--- the same as a test
+-- `Holds` as a test
 abbrev pub holds : Range → Bool
 holds (within low x high) = leb low x && leb x high
 holds (names x n) = ltb x n && ltb x 256
@@ -105,11 +105,11 @@ pub record State : Type 0 where
   pub graph : Graph
   pub floor : ℕ
 
--- before the first record
+-- the state before the first record
 abbrev pub start : State
 start = record { graph = empty; floor = 0 }
 
--- behind one record more
+-- the state behind one record more
 abbrev pub step : State → Record → State
 step s r = record { graph = add (s .graph) r; floor = after r }
 
@@ -156,7 +156,7 @@ abbrev pub AllGood : State → List Record → Type 0
 AllGood s [] = Unit {0}
 AllGood s (r ∷ rs) = Good s r × AllGood (step s r) rs
 
--- behind all these records
+-- the state behind all these records
 abbrev pub steps : State → List Record → State
 steps s [] = s
 steps s (r ∷ rs) = steps (step s r) rs

@@ -52,7 +52,7 @@ max-prefix = 16
 abbrev pub max-cycle : ℕ
 max-cycle = 32
 
--- the largest period, offset, fill, size, n, d and phase
+-- the largest period, offset, initial, size, n, d and φ
 abbrev pub million : ℕ
 million = 1000000
 

@@ -17,7 +17,7 @@ placeIn p c m = cond (ltb m p) m (cond (eqb c 0) 0 ((m - p) % c))
 abbrev pub placeOf : List ℕ → List ℕ → ℕ → ℕ
 placeOf prefix cycle m = placeIn (length prefix) (length cycle) m
 
--- the rate that stands there
+-- job m's rate: the entry at that place of that list, 0 where the cycle is empty
 unfoldable pub rateOf : List ℕ → List ℕ → ℕ → ℕ
 rateOf prefix cycle m = getD (listOf prefix cycle m) (placeOf prefix cycle m) 0
 
