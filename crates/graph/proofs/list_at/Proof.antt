@@ -1,16 +1,13 @@
--- `graph::list_at` meets its contract. Assumes nothing.
-use borrow.Author.Tests.{lt-ltb, le-ltb}
-use Rattle.graph.specs.Rates.{listOf}
+-- `graph::list_at` meets its contract: by whether the prefix has an entry m. Assumes nothing.
+use Rattle.graph.proofs.Rates.{in-prefix, in-cycle}
 use Rattle.graph.proofs.list_at.Statement.{statement}
 use Rattle.graph.proofs.list_at.Tie as tie
 
 returns : tie.Need-returns
-unfolding listOf
-returns c = simp (lt-ltb _ _ (c .if1 .taken))
+returns c = in-prefix _ _ _ (c .if1 .taken)
 
 returns-2 : tie.Need-returns-2
-unfolding listOf
-returns-2 c = simp (le-ltb _ _ (c .if1 .left))
+returns-2 c = in-cycle _ _ _ (c .if1 .left)
 
 pub list-at-spec : {M : Type 1} → statement M
 list-at-spec = tie.close (tie.spec returns returns-2)

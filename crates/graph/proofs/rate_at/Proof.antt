@@ -1,10 +1,6 @@
--- `graph::rate_at` meets its contract. Assumes nothing.
-use mathlib.Core.Path.{sym}
-use Prim.Native.Nat.{_≤_}
-use native.Mathlib.Omega.{arith}
-use lib.ListN.{length, List·getD-eq-default}
+-- `graph::rate_at` meets its contract: the entry at the place of the list, or 0 where the list has none. Assumes nothing.
 use borrow.Author.Needs.{needs}
-use Rattle.graph.specs.Rates.{rateOf}
+use Rattle.graph.proofs.Rates.{rate-is, no-rate}
 use Rattle.graph.proofs.rate_at.Statement.{statement}
 use Rattle.graph.proofs.rate_at.Tie as tie
 
@@ -21,15 +17,10 @@ shared-slice-read-result : tie.Need-shared-slice-read-result
 shared-slice-read-result c = search needs
 
 returns : tie.Need-returns
-unfolding rateOf
-returns c = rw (c .before .before .before .list-at .ensures, c .before .before .place-at .ensures)
+returns c = rate-is _ _ _ _ _ (c .before .before .before .list-at .ensures) (c .before .before .place-at .ensures)
 
 returns-2 : tie.Need-returns-2
-unfolding rateOf
-returns-2 c =
-    let h : length (c .before .before .list-at .result .now) ≤ c .before .place-at .result = omega arith in
-    rw (c .before .before .list-at .ensures, c .before .place-at .ensures)
-    at (sym (List·getD-eq-default (c .before .before .list-at .result .now) 0 h))
+returns-2 c = no-rate _ _ _ _ _ (c .before .before .list-at .ensures) (c .before .place-at .ensures) (c .if1 .left)
 
 pub rate-at-spec : {M : Type 1} → statement M
 rate-at-spec =
