@@ -4,7 +4,7 @@
 Feeds each DIR/NAME.bin to PROGRAM's standard input and holds what it writes to
 DIR/NAME.out, byte for byte. Prints the names that fail (-v: what was wanted and
 written), then 'N passed, M failed'; the exit status is 0 only if there are
-vectors and none fails. --pipe feeds each file through a pipe in small pieces.
+vectors and none fails. A file of a pair that has no other fails too. --pipe feeds each file through a pipe in small pieces.
 """
 import os
 import subprocess
@@ -38,9 +38,13 @@ def by_pipe(program, path):
 
 
 def outcome(feed, program, path):
-    """What the vector wants and what the program wrote; None where it did not end in time."""
-    with open(path + ".out", "rb") as file:
-        wanted = file.read()
+    """What the vector wants and what the program wrote; None where it did not end in time or a file is missing."""
+    try:
+        with open(path + ".out", "rb") as file:
+            wanted = file.read()
+        os.stat(path + ".bin")
+    except FileNotFoundError as missing:
+        return str(missing), None
     try:
         return wanted, feed(program, path + ".bin")
     except subprocess.TimeoutExpired:
@@ -54,7 +58,7 @@ def main(words):
     if len(names) != 2:
         sys.exit(__doc__)
     program, folder = os.path.abspath(names[0]), names[1]
-    vectors = sorted(name[:-4] for name in os.listdir(folder) if name.endswith(".bin"))
+    vectors = sorted({name[:-4] for name in os.listdir(folder) if name.endswith((".bin", ".out"))})
     failed = 0
     with ThreadPoolExecutor(os.cpu_count() or 1) as pool:
         paths = [os.path.join(folder, name) for name in vectors]
