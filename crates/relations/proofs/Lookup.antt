@@ -15,14 +15,16 @@ use Rattle.rules.specs.Rules.{Holds}
 use Rattle.rules.proofs.Given.{task-is}
 use Rattle.relations.specs.declared.Named.{Named}
 use Rattle.relations.specs.declared.Named.the-variants.{At, Nothing}
-use Rattle.relations.specs.Find.{found}
+use Rattle.relations.specs.Find.{when, found}
 use Rattle.relations.specs.Relation.{Equations}
 
 module _ (ts : List Task) (n : ℕ) (size : n ≤ length ts) (i : ℕ) (below : i < n) (r : Named) (e : r ≡ found (take n ts) i) where
   finds : r ≡ At (task-of ts i .period) (task-of ts i .offset)
   finds =
-      let a : ltb i (length (take n ts)) ≡ true = lt-ltb i (length (take n ts)) (rw (length-take-le n ts size) below) in
-      e ∙ simp (a, getD-take n ts i no-task below)
+      let there : ltb i (length (take n ts)) ≡ true = lt-ltb i (length (take n ts)) (rw (length-take-le n ts size) below) in
+      e
+      ∙ ap (λ b. when b (At (task-of (take n ts) i .period) (task-of (take n ts) i .offset))) there
+      ∙ ap (λ (t : Task). At (t .period) (t .offset)) (getD-take n ts i no-task below)
 
   pub something : ¬ (r ≡ Nothing)
   something q = let z : _≡_ {A = ℕ} 0 1 = cc finds in omega arith

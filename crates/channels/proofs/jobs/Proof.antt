@@ -1,4 +1,6 @@
 -- `channels::jobs` meets its contract. Assumes nothing.
+use mathlib.Core.Path.{ap}
+use Prim.Native.Nat.{_+_, _/_}
 use native.Mathlib.Nat.{mul-le-mul, div-le-self}
 use native.Mathlib.Omega.{arith}
 use borrow.Author.Needs.{needs}
@@ -39,7 +41,9 @@ add-result-3 c =
     omega (arith, c .left .ensures, mul-le-mul {n₁ = c .before .before .before .before .args .gplen} {n₂ = 16} {m₂ = 1_000_000} (c .before .before .before .before .pre .giver-prefix) (c .before .before .before .before .pre .giver-period), div-le-self (c .left .result) (a .taker .period), div-le-self (a .length) (a .taker .period))
 
 returns : tie.Need-returns
-returns c = rw (c .left .ensures)
+returns c =
+    let a = c .before .before .before .before .args in
+    ap (λ x. a .tplen + x / a .taker .period + 1 + a .length / a .taker .period) (c .left .ensures)
 
 pub jobs-spec : {M : Type 1} → statement M
 jobs-spec =

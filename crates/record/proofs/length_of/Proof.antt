@@ -1,5 +1,5 @@
 -- `record::length_of` meets its contract: the table's rule is computed at each of its five entries, once. Assumes nothing.
-use mathlib.Core.Path.{_≡_}
+use mathlib.Core.Path.{_≡_, refl}
 use Prim.Native.Nat.{ℕ, _<_}
 use native.Mathlib.Omega.{arith}
 use borrow.Author.Tests.{ne-eqb}
@@ -19,7 +19,7 @@ returns : tie.Need-returns
 unfolding kind-of
 returns c =
     let k = c .before .args .byte in
-    each k (search needs) (λ e. rw e) (λ e. rw e) (λ e. rw e) (λ e. rw e) (λ e. rw e)
+    each k (search needs) (λ e. rw e refl) (λ e. rw e refl) (λ e. rw e refl) (λ e. rw e refl) (λ e. rw e refl)
 
 returns-2 : tie.Need-returns-2
 unfolding kind-of

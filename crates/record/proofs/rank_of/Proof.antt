@@ -1,4 +1,5 @@
--- `record::rank_of` meets its contract. Assumes nothing.
+-- `record::rank_of` meets its contract: it is computed as it is written. Assumes nothing.
+use mathlib.Core.Path.{refl}
 use borrow.Author.Needs.{needs}
 use Rattle.record.proofs.rank_of.Statement.{statement}
 use Rattle.record.proofs.rank_of.Tie as tie
@@ -22,7 +23,7 @@ add-result-3 : tie.Need-add-result-3
 add-result-3 c = search needs
 
 returns : tie.Need-returns
-returns c = search needs
+returns c = refl
 
 pub rank-of-spec : {M : Type 1} → statement M
 rank-of-spec =
