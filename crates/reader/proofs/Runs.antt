@@ -2,19 +2,19 @@
 use mathlib.Core.Path.{_≡_, refl, sym, ap, ap₂, subst, _∙_}
 use mathlib.Core.Bool.{Bool, true, false, cond}
 use mathlib.Core.List.{List, map}
-use Prim.Native.Nat.{ℕ, _+_, _≤_, _<_}
+use Prim.Native.Nat.{ℕ, _+_, _<_}
 use native.Mathlib.Omega.{arith}
 use borrow.Author.Tests.{eq-eqb, ne-eqb}
 use lib.Dec.{eqb}
 use lib.ListN.{length, getD, set, length-set, length-map}
 use lib.Seq.{getD-set-same, set-set}
 use Rattle.graph.specs.Model.{Rates, Link, Graph, bare}
-use Rattle.graph.specs.Memory.{Memory, MemoryLink, MemoryRates, view-link, pad, laid-rates, laid-link, zero-link, laid}
+use Rattle.graph.specs.Memory.{Memory, MemoryLink, MemoryRates, view-link, laid-rates, laid-link, zero-link, laid}
 use Rattle.graph.proofs.Laid.{pad-length, view-laid-link}
 use Rattle.graph.proofs.Stores.{store-prefix, store-cycle}
 use Rattle.format.specs.Growth.{part-of, list-of, side-of, push-part, push}
 use Rattle.format.specs.Record.{digits, rank}
-use Rattle.format.specs.Reader.{State, Bytes, limit}
+use Rattle.format.specs.Reader.{Bytes, limit}
 use Rattle.record.specs.declared.Entry.{Entry}
 use Rattle.record.specs.declared.Front.the-variants.{Rate}
 use Rattle.record.specs.Heads.{entered}
@@ -96,7 +96,7 @@ module _
           omega arith
 
       pub fills-next : (t : MemoryRates) → t ≡ laid-rates (push-part (F .rates) (e .part) (f .tokens))
-          → (at + 1 + 5 ≤ length file) × Fills file m l e floor ntasks nchannels nrelations t (at + 1 + 5)
+          → Fills file m l e floor ntasks nchannels nrelations t (at + 1 + 5)
       unfolding rank
       fills-next t is =
           let q : Rates = push-part (F .rates) (e .part) (f .tokens) in
@@ -106,26 +106,24 @@ module _
           ∙ ap₂ (λ a b. push a b (f .tokens) (with-sides l (e .side) (F .rates))) (sym (same .side)) (sym (same .part))
           ∙ ap (push (f .side) (f .part) (f .tokens)) (sym there-is)) in
           let o : floor ≡ digits 3 (f .channel) (f .side) (f .part) = omega (arith, F .stood .order, same .channel, same .side, same .part) in
-          let (inside, N) = rate-next file now-here floor at S more bytes f T roomy v h floor o in
+          let N = subst (λ x. Stands file (stored now-here (f .channel) x) floor (at + 1 + 5)) (sym h) (rate-next file now-here floor at S more bytes f T roomy floor o .stands) in
           let k : stored now-here (f .channel) v ≡ stored m (e .channel) v =
           ap (λ i. stored now-here i v) (same .channel)
-          ∙ ap (λ (cs : List MemoryLink). record { tasks = m .tasks; ntasks = m .ntasks; channels = cs; nchannels = m .nchannels; relations = m .relations; nrelations = m .nrelations }) (set-set (m .channels) (e .channel) w v) in (
-            inside,
-            record {
-              rates = q;
-              is = is;
-              stood = record {
-                stands = subst (λ n. Stands file n floor (at + 1 + 5)) k N;
-                order = F .stood .order;
-                tasks = F .stood .tasks;
-                channels = F .stood .channels;
-                relations = F .stood .relations;
-              };
-            },
-          )
+          ∙ ap (λ (cs : List MemoryLink). record { tasks = m .tasks; ntasks = m .ntasks; channels = cs; nchannels = m .nchannels; relations = m .relations; nrelations = m .nrelations }) (set-set (m .channels) (e .channel) w v) in
+          record {
+            rates = q;
+            is = is;
+            stood = record {
+              stands = subst (λ n. Stands file n floor (at + 1 + 5)) k N;
+              order = F .stood .order;
+              tasks = F .stood .tasks;
+              channels = F .stood .channels;
+              relations = F .stood .relations;
+            };
+          }
 
     pub fills-prefix : e .part ≡ 0 → s .plen < 16
-        → (at + 1 + 5 ≤ length file) × Fills file m l e floor ntasks nchannels nrelations
+        → Fills file m l e floor ntasks nchannels nrelations
         (record { prefix = set (s .prefix) (s .plen) (f .tokens); plen = s .plen + 1; cycle = s .cycle; clen = s .clen }) (at + 1 + 5)
     unfolding limit
     fills-prefix z h =
@@ -133,7 +131,7 @@ module _
         fills-next (simp (eq-eqb (e .part) 0 z) (omega arith)) _ (simp (eq-eqb (e .part) 0 z) (store-prefix s (F .rates) (F .is) (f .tokens) h))
 
     pub fills-cycle : ¬ (e .part ≡ 0) → s .clen < 32
-        → (at + 1 + 5 ≤ length file) × Fills file m l e floor ntasks nchannels nrelations
+        → Fills file m l e floor ntasks nchannels nrelations
         (record { prefix = s .prefix; plen = s .plen; cycle = set (s .cycle) (s .clen) (f .tokens); clen = s .clen + 1 }) (at + 1 + 5)
     unfolding limit
     fills-cycle z h =

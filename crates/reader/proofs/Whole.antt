@@ -9,10 +9,10 @@ use Rattle.numbers.specs.Lists.{First}
 use Rattle.numbers.proofs.Sums.{cases}
 use Rattle.reply.specs.declared.Reply.the-variants.{Accepted, NoTask, EmptyCycle}
 use Rattle.reply.specs.declared.Found.the-variants.{Nothing, At}
-use Rattle.graph.specs.Model.{Link, Graph, bare, empty}
+use Rattle.graph.specs.Model.{Graph, bare, empty}
 use Rattle.graph.specs.Memory.{Memory, MemoryLink, laid-link, laid}
 use Rattle.graph.proofs.Stores.{load-link}
-use Rattle.format.specs.Reader.{State, cycles, Hollow, Whole, no-task, no-entry, taken}
+use Rattle.format.specs.Reader.{cycles, Hollow, Whole, no-task, no-entry, taken}
 use Rattle.format.proofs.Steps.{cycle-place, cycles-length}
 use Rattle.reader.specs.Records.{LaidOut}
 use Rattle.reader.specs.Reading.{Finishes, FirstHollow}

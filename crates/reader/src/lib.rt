@@ -1,14 +1,15 @@
 // The reader of graph files: record by record from the front, each test in its order, into a graph.
 ghost use mathlib.Core.Path.{_≡_};
 ghost use mathlib.Core.Bool.{true};
-ghost use Prim.Native.Nat.{_≤_};
+ghost use mathlib.Core.List.{List};
+ghost use Prim.Native.Nat.{ℕ, _≤_};
 ghost use lib.ListN.{length};
 ghost use Rattle.graph.specs.Model.{Rates, Link, Graph as Model, bare};
 ghost use Rattle.graph.specs.Memory.{Memory, laid-rates, laid-link};
 ghost use Rattle.format.specs.Growth.{part-of, side-of, push-part, push};
 ghost use Rattle.reader.specs.Records.{Room, with-sides, Roomy, SameList, Fills, Stood, test-of, LaidOut, HoldsOne, Ended};
 ghost use Rattle.reader.specs.Reading.{Gives, Finishes, FirstHollow};
-ghost use Rattle.format.specs.Reader.{limit, stop-reply};
+ghost use Rattle.format.specs.Reader.{limit, stop-reply, Answers, stopped as refused};
 ghost use Rattle.record.specs.Fronts.{Decides};
 ghost use Rattle.format.specs.Record.{rate};
 use graph::Channel;
@@ -220,6 +221,16 @@ fn link_with(
     }
 }
 
+// How a run ends at a record that a test stops.
+fn stopped(test: Test, at: usize, graph: Graph) -> Run
+    ensures { λ r. ⌜ ((file : List ℕ) → Answers file (refused (test-of test) at) → Ended file r) ⌝ }
+{
+    Run {
+        end: End::Stopped { test: test, at: at },
+        graph: graph,
+    }
+}
+
 // The records from the front, each stored where it belongs, up to the end or the first that a test stops.
 fn records(file: &[u8]) -> Run
     ensures { λ r. ⌜ Ended (now (file .entry)) r ⌝ }
@@ -248,13 +259,7 @@ fn records(file: &[u8]) -> Run
                 let i = e.channel as usize;
                 let c = graph.channels[i];
                 if !has_room(c, e) {
-                    return Run {
-                        end: End::Stopped {
-                            test: Test::Full,
-                            at: at,
-                        },
-                        graph: graph,
-                    };
+                    return stopped(Test::Full, at, graph);
                 }
                 floor = record::rank_of(3, e.channel, e.side, e.part);
                 let start = at + 1 + BODY[3];
@@ -270,10 +275,7 @@ fn records(file: &[u8]) -> Run
                 at = at + 1 + BODY[4];
             }
             Front::Stopped(test) => {
-                return Run {
-                    end: End::Stopped { test: test, at: at },
-                    graph: graph,
-                };
+                return stopped(test, at, graph);
             }
         }
     }

@@ -1,14 +1,12 @@
 -- The fields of a record's body, as code reads them. Assumes nothing.
-use mathlib.Core.Path.{_≡_, refl, ap, _∙_}
+use mathlib.Core.Path.{_≡_, ap, _∙_}
 use mathlib.Core.List.{List}
 use Prim.Native.Nat.{ℕ, _+_, _*_, _≤_, _<_}
 use native.Mathlib.Nat.{add-zero}
 use native.Mathlib.Omega.{arith}
 use lib.ListN.{length, getD, take, drop}
-use Rattle.graph.specs.declared.Task.{Task}
-use Rattle.graph.specs.declared.Relation.{Relation}
 use lib.IntN.{ℤ}
-use Rattle.format.specs.Record.{number, unwrap, Kind, a-task, a-channel, a-rate, a-relation, widths, split, field, total, Record, task, channel, rate, relation, decode}
+use Rattle.format.specs.Record.{number, unwrap, Kind, a-task, a-channel, a-rate, a-relation, widths, split, field, total, task, channel, rate, relation, decode}
 use Rattle.format.proofs.Steps.{number-more, number-four, field-at}
 
 module _ (bs : List ℕ) (at : ℕ) where

@@ -1,5 +1,5 @@
 -- The tests of one record, from what code has at hand. Assumes nothing.
-use mathlib.Core.Path.{_≡_, refl, sym, subst, _∙_}
+use mathlib.Core.Path.{_≡_, refl, sym, subst}
 use mathlib.Core.Bool.{Bool, true, false, not, false≢true}
 use Prim.Native.Nat.{_≤_, _<_}
 use Rattle.format.specs.Record.{Record, rank}

@@ -1,6 +1,6 @@
 -- A place of the file: its kind byte, the length of its body, and the tests of it. Assumes nothing.
-use mathlib.Core.Path.{_≡_, refl, sym, ap, subst, _∙_}
-use mathlib.Core.Logic.{_⊎_, inl, inr}
+use mathlib.Core.Path.{_≡_, refl, sym, ap, _∙_}
+use mathlib.Core.Logic.{inl, inr}
 use mathlib.Core.Option.{Option, none, some}
 use mathlib.Core.List.{List}
 use Prim.Native.Nat.{ℕ, suc, _+_, _-_, _≤_, _<_}
@@ -12,7 +12,7 @@ use Rattle.format.specs.Record.{Kind, a-task, a-channel, a-rate, a-relation, si
 use Rattle.format.specs.Reader.{State}
 use Rattle.record.specs.declared.Kind.{Kind as Named}
 use Rattle.record.specs.declared.Kind.the-variants.{Task, Channel, Rate, Relation, Unknown as Nameless}
-use Rattle.record.specs.declared.Test.the-variants.{Unknown, Cut}
+use Rattle.record.specs.declared.Test.the-variants.{Cut}
 use Rattle.record.specs.declared.Front.{Front}
 use Rattle.record.specs.declared.Front.the-variants.{Stopped}
 use Rattle.record.specs.Heads.{named, length-of}

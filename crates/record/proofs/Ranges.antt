@@ -1,8 +1,5 @@
 -- Ranges of a record, put together from tests of its fields. Assumes nothing.
-use mathlib.Core.Path.{_≡_}
 use mathlib.Core.Bool.{Bool, true, false}
-use Prim.Native.Nat.{ℕ, _≤_, _<_}
-use native.Mathlib.Omega.{arith}
 use lib.ListN.{length}
 use Rattle.graph.specs.declared.Relation.{Relation}
 use Rattle.graph.specs.Model.{Graph}

@@ -1,6 +1,6 @@
 // Test 10: relations, by equations 7 and 8 of source 004, in signed whole numbers.
 ghost use mathlib.Core.Path.{_≡_};
-ghost use Prim.Native.Nat.{ℕ, _≤_, _<_};
+ghost use Prim.Native.Nat.{_≤_, _<_};
 ghost use mathlib.Core.Bool.{true, false};
 ghost use lib.ListN.{take};
 ghost use Rattle.numbers.specs.Lists.{All};

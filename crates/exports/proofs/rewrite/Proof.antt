@@ -1,5 +1,5 @@
 -- `exports::rewrite` meets its contract: by the number of the reader's reply. Assumes nothing.
-use mathlib.Core.Path.{_≡_, sym, ap, _∙_}
+use mathlib.Core.Path.{sym, ap, _∙_}
 use borrow.Author.Needs.{needs}
 use Rattle.reply.specs.declared.Numbers.{Numbers}
 use Rattle.exports.specs.Exports.{refused, passed}

@@ -1,13 +1,15 @@
 -- `reader::run_of` meets its contract: what fills the list so far, each entry more goes on from. The measure is what is left of the file. Assumes nothing.
-use mathlib.Core.Path.{subst}
-use Prim.Native.Nat.{_-_, _<_, _≤_}
+use mathlib.Core.Path.{_≡_, subst}
+use mathlib.Core.List.{List}
+use Prim.Native.Nat.{ℕ, _+_, _-_, _<_, _≤_}
 use native.Mathlib.Omega.{arith}
-use lib.ListN.{length}
+use lib.ListN.{length, set}
 use borrow.Author.Needs.{needs}
 use Rattle.graph.specs.Model.{Link}
-use Rattle.graph.specs.Memory.{Memory}
+use Rattle.graph.specs.Memory.{Memory, MemoryRates}
 use Rattle.format.specs.Reader.{Bytes}
 use Rattle.format.proofs.Steps.{bytes-of}
+use Rattle.record.specs.declared.Entry.{Entry}
 use Rattle.record.specs.declared.Front.the-variants.{Rate}
 use Rattle.record.specs.Fronts.{Tells}
 use Rattle.reader.specs.Records.{SameList, Fills}
@@ -45,6 +47,61 @@ returns-2 c = search needs
 returns-3 : tie.Need-returns-3 Inv-loop μ-loop
 returns-3 c = search needs
 
+-- ---- a turn of the loop: an entry more that goes into the same list
+
+module _ (c : tie.After-struct-known Inv-loop μ-loop) where
+  abbrev file : List ℕ
+  file = c .before .before .before .before .before .before .before .before .before .before .args .file .now
+
+  abbrev first : Entry
+  first = c .before .before .before .before .before .before .before .before .before .before .args .e
+
+  abbrev entry : Entry
+  entry = c .before .before .before .before .f .given .0 .0
+
+  abbrev rates : MemoryRates
+  rates = c .before .before .before .before .before .before .before .before .loop .s
+
+  abbrev at : ℕ
+  at = c .before .before .before .before .before .before .before .before .loop .at
+
+  -- memory m whose channel l is filled by these rates up to a place
+  abbrev Filled : Memory → Link → MemoryRates → ℕ → Type 0
+  Filled m l s to = let a = c .before .before .before .before .before .before .before .before .before .before .args in Fills file m l first (a .floor) (a .ntasks) (a .nchannels) (a .nrelations) s to
+
+  more : at < length file
+  more = c .before .before .before .before .before .before .before .loop-test .taken
+
+  bytes : Bytes file
+  bytes = bytes-of file (λ j l. omega (arith, c .before .before .before .before .before .before .before .before .before .shared-slice-known .given j))
+
+  same : SameList first entry
+  same = said (c .before .before .same-list .result) (c .before .before .same-list .ensures) (c .before .if1 .left)
+
+  module _ (m : Memory) (l : Link) (F₀ : Filled m l (c .before .before .before .before .before .before .before .before .before .before .args .side) (c .before .before .before .before .before .before .before .before .before .before .args .start)) where
+    so-far : Filled m l rates at
+    so-far = c .before .before .before .before .before .before .before .before .loop .inv .1 m l F₀
+
+    told : Tells file (so-far .stood .stands .state) at (Rate entry)
+    told =
+        subst (Tells file (so-far .stood .stands .state) at) (c .before .before .before .before .f .given .1)
+        (c .before .before .before .before .before .before .front-at .ensures _ (fills-counts file m l first _ _ _ _ rates at so-far))
+
+    to-prefix : first .part ≡ 0 → rates .plen < 16
+        → Filled m l (record { prefix = set (rates .prefix) (rates .plen) (entry .tokens); plen = rates .plen + 1; cycle = rates .cycle; clen = rates .clen }) (at + 1 + 5)
+    to-prefix = fills-prefix file m l first _ _ _ _ rates at so-far more bytes entry told same
+
+    to-cycle : ¬ (first .part ≡ 0) → rates .clen < 32
+        → Filled m l (record { prefix = rates .prefix; plen = rates .plen; cycle = set (rates .cycle) (rates .clen) (entry .tokens); clen = rates .clen + 1 }) (at + 1 + 5)
+    to-cycle = fills-cycle file m l first _ _ _ _ rates at so-far more bytes entry told same
+
+-- ---- into the prefix
+
+prefix-inside : (c : tie.Else3 Inv-loop μ-loop) → at (c .before .before) + 1 + 5 ≤ length (file (c .before .before))
+prefix-inside c =
+    let (m, l, F₀) = c .before .before .before .before .before .before .before .before .before .before .before .before .pre in
+    to-prefix (c .before .before) m l F₀ (c .before .if2 .taken) (omega arith) .stood .stands .leads .inside
+
 mul-s : tie.Need-mul-s Inv-loop μ-loop
 mul-s c = search needs
 
@@ -55,76 +112,29 @@ add-s : tie.Need-add-s Inv-loop μ-loop
 add-s c = search needs
 
 add-at : tie.Need-add-at Inv-loop μ-loop
-add-at c =
-    let a = c .before .before .before .before .before .before .before .before .before .before .before .before .args in
-    let i = c .before .before .before .before .before .before .before .before .before .before .loop in
-    let file = a .file .now in
-    let more : i .at < length file = c .before .before .before .before .before .before .before .before .before .loop-test .taken in
-    let bytes : Bytes file = bytes-of file (λ j l. omega (arith, c .before .before .before .before .before .before .before .before .before .before .before .shared-slice-known .given j)) in
-    let f = c .before .before .before .before .before .before .f .given .0 .0 in
-    let same : SameList (a .e) f = said (c .before .before .before .before .same-list .result) (c .before .before .before .before .same-list .ensures) (c .before .before .before .if1 .left) in
-    let (m, l, F₀) = c .before .before .before .before .before .before .before .before .before .before .before .before .pre in
-    let F = i .inv .1 m l F₀ in
-    let S = F .stood .stands in
-    let T : Tells file (S .state) (i .at) (Rate f) = subst (Tells file (S .state) (i .at)) (c .before .before .before .before .before .before .f .given .1) (c .before .before .before .before .before .before .before .before .front-at .ensures (S .state) (fills-counts file m l (a .e) (a .floor) (a .ntasks) (a .nchannels) (a .nrelations) (i .s) (i .at) F)) in
-    let r = fills-prefix file m l (a .e) (a .floor) (a .ntasks) (a .nchannels) (a .nrelations) (i .s) (i .at) F more bytes f T same (c .before .if2 .taken) (omega arith) in
-    omega (arith, r .0, c .before .before .before .before .before .before .before .before .before .before .before .before .good)
+add-at c = omega (arith, prefix-inside c, c .before .before .before .before .before .before .before .before .before .before .before .before .good)
 
 array-read-at : tie.Need-array-read-at Inv-loop μ-loop
 array-read-at c = search needs
 
 add-at-2 : tie.Need-add-at-2 Inv-loop μ-loop
-add-at-2 c =
-    let a = c .before .before .before .before .before .before .before .before .before .before .before .before .args in
-    let i = c .before .before .before .before .before .before .before .before .before .before .loop in
-    let file = a .file .now in
-    let more : i .at < length file = c .before .before .before .before .before .before .before .before .before .loop-test .taken in
-    let bytes : Bytes file = bytes-of file (λ j l. omega (arith, c .before .before .before .before .before .before .before .before .before .before .before .shared-slice-known .given j)) in
-    let f = c .before .before .before .before .before .before .f .given .0 .0 in
-    let same : SameList (a .e) f = said (c .before .before .before .before .same-list .result) (c .before .before .before .before .same-list .ensures) (c .before .before .before .if1 .left) in
-    let (m, l, F₀) = c .before .before .before .before .before .before .before .before .before .before .before .before .pre in
-    let F = i .inv .1 m l F₀ in
-    let S = F .stood .stands in
-    let T : Tells file (S .state) (i .at) (Rate f) = subst (Tells file (S .state) (i .at)) (c .before .before .before .before .before .before .f .given .1) (c .before .before .before .before .before .before .before .before .front-at .ensures (S .state) (fills-counts file m l (a .e) (a .floor) (a .ntasks) (a .nchannels) (a .nrelations) (i .s) (i .at) F)) in
-    let r = fills-prefix file m l (a .e) (a .floor) (a .ntasks) (a .nchannels) (a .nrelations) (i .s) (i .at) F more bytes f T same (c .before .if2 .taken) (omega arith) in
-    omega (arith, r .0, c .before .before .before .before .before .before .before .before .before .before .before .before .good)
+add-at-2 c = omega (arith, prefix-inside c, c .before .before .before .before .before .before .before .before .before .before .before .before .good)
 
 loop-less : tie.Need-loop-less Inv-loop μ-loop
-loop-less c =
-    let a = c .before .before .before .before .before .before .before .before .before .before .before .before .args in
-    let i = c .before .before .before .before .before .before .before .before .before .before .loop in
-    let file = a .file .now in
-    let more : i .at < length file = c .before .before .before .before .before .before .before .before .before .loop-test .taken in
-    let bytes : Bytes file = bytes-of file (λ j l. omega (arith, c .before .before .before .before .before .before .before .before .before .before .before .shared-slice-known .given j)) in
-    let f = c .before .before .before .before .before .before .f .given .0 .0 in
-    let same : SameList (a .e) f = said (c .before .before .before .before .same-list .result) (c .before .before .before .before .same-list .ensures) (c .before .before .before .if1 .left) in
-    let (m, l, F₀) = c .before .before .before .before .before .before .before .before .before .before .before .before .pre in
-    let F = i .inv .1 m l F₀ in
-    let S = F .stood .stands in
-    let T : Tells file (S .state) (i .at) (Rate f) = subst (Tells file (S .state) (i .at)) (c .before .before .before .before .before .before .f .given .1) (c .before .before .before .before .before .before .before .before .front-at .ensures (S .state) (fills-counts file m l (a .e) (a .floor) (a .ntasks) (a .nchannels) (a .nrelations) (i .s) (i .at) F)) in
-    let r = fills-prefix file m l (a .e) (a .floor) (a .ntasks) (a .nchannels) (a .nrelations) (i .s) (i .at) F more bytes f T same (c .before .if2 .taken) (omega arith) in
-    omega (arith, r .0, c .before .before .before .before .before .before .before .before .before .before .before .before .good)
+loop-less c = omega (arith, prefix-inside c)
 
 loop-again : tie.Need-loop-again Inv-loop μ-loop
-loop-again c =
-    let a = c .before .before .before .before .before .before .before .before .before .before .before .before .args in
-    let i = c .before .before .before .before .before .before .before .before .before .before .loop in
-    let file = a .file .now in
-    let more : i .at < length file = c .before .before .before .before .before .before .before .before .before .loop-test .taken in
-    let bytes : Bytes file = bytes-of file (λ j l. omega (arith, c .before .before .before .before .before .before .before .before .before .before .before .shared-slice-known .given j)) in
-    let f = c .before .before .before .before .before .before .f .given .0 .0 in
-    let same : SameList (a .e) f = said (c .before .before .before .before .same-list .result) (c .before .before .before .before .same-list .ensures) (c .before .before .before .if1 .left) in (
-      omega arith,
-      λ m l F₀.
-          let F = i .inv .1 m l F₀ in
-          let S = F .stood .stands in
-          let T : Tells file (S .state) (i .at) (Rate f) = subst (Tells file (S .state) (i .at)) (c .before .before .before .before .before .before .f .given .1) (c .before .before .before .before .before .before .before .before .front-at .ensures (S .state) (fills-counts file m l (a .e) (a .floor) (a .ntasks) (a .nchannels) (a .nrelations) (i .s) (i .at) F)) in
-          let r = fills-prefix file m l (a .e) (a .floor) (a .ntasks) (a .nchannels) (a .nrelations) (i .s) (i .at) F more bytes f T same (c .before .if2 .taken) (omega arith) in
-          r .1,
-    )
+loop-again c = (omega arith, λ m l F₀. to-prefix (c .before .before) m l F₀ (c .before .if2 .taken) (omega arith))
+
+-- ---- into the cycle
 
 returns-4 : tie.Need-returns-4 Inv-loop μ-loop
 returns-4 c = search needs
+
+cycle-inside : (c : tie.Else4 Inv-loop μ-loop) → at (c .before .before) + 1 + 5 ≤ length (file (c .before .before))
+cycle-inside c =
+    let (m, l, F₀) = c .before .before .before .before .before .before .before .before .before .before .before .before .pre in
+    to-cycle (c .before .before) m l F₀ (c .before .if2 .left) (omega arith) .stood .stands .leads .inside
 
 mul-s-2 : tie.Need-mul-s-2 Inv-loop μ-loop
 mul-s-2 c = search needs
@@ -136,73 +146,19 @@ add-s-2 : tie.Need-add-s-2 Inv-loop μ-loop
 add-s-2 c = search needs
 
 add-at-3 : tie.Need-add-at-3 Inv-loop μ-loop
-add-at-3 c =
-    let a = c .before .before .before .before .before .before .before .before .before .before .before .before .args in
-    let i = c .before .before .before .before .before .before .before .before .before .before .loop in
-    let file = a .file .now in
-    let more : i .at < length file = c .before .before .before .before .before .before .before .before .before .loop-test .taken in
-    let bytes : Bytes file = bytes-of file (λ j l. omega (arith, c .before .before .before .before .before .before .before .before .before .before .before .shared-slice-known .given j)) in
-    let f = c .before .before .before .before .before .before .f .given .0 .0 in
-    let same : SameList (a .e) f = said (c .before .before .before .before .same-list .result) (c .before .before .before .before .same-list .ensures) (c .before .before .before .if1 .left) in
-    let (m, l, F₀) = c .before .before .before .before .before .before .before .before .before .before .before .before .pre in
-    let F = i .inv .1 m l F₀ in
-    let S = F .stood .stands in
-    let T : Tells file (S .state) (i .at) (Rate f) = subst (Tells file (S .state) (i .at)) (c .before .before .before .before .before .before .f .given .1) (c .before .before .before .before .before .before .before .before .front-at .ensures (S .state) (fills-counts file m l (a .e) (a .floor) (a .ntasks) (a .nchannels) (a .nrelations) (i .s) (i .at) F)) in
-    let r = fills-cycle file m l (a .e) (a .floor) (a .ntasks) (a .nchannels) (a .nrelations) (i .s) (i .at) F more bytes f T same (c .before .if2 .left) (omega arith) in
-    omega (arith, r .0, c .before .before .before .before .before .before .before .before .before .before .before .before .good)
+add-at-3 c = omega (arith, cycle-inside c, c .before .before .before .before .before .before .before .before .before .before .before .before .good)
 
 array-read-at-2 : tie.Need-array-read-at-2 Inv-loop μ-loop
 array-read-at-2 c = search needs
 
 add-at-4 : tie.Need-add-at-4 Inv-loop μ-loop
-add-at-4 c =
-    let a = c .before .before .before .before .before .before .before .before .before .before .before .before .args in
-    let i = c .before .before .before .before .before .before .before .before .before .before .loop in
-    let file = a .file .now in
-    let more : i .at < length file = c .before .before .before .before .before .before .before .before .before .loop-test .taken in
-    let bytes : Bytes file = bytes-of file (λ j l. omega (arith, c .before .before .before .before .before .before .before .before .before .before .before .shared-slice-known .given j)) in
-    let f = c .before .before .before .before .before .before .f .given .0 .0 in
-    let same : SameList (a .e) f = said (c .before .before .before .before .same-list .result) (c .before .before .before .before .same-list .ensures) (c .before .before .before .if1 .left) in
-    let (m, l, F₀) = c .before .before .before .before .before .before .before .before .before .before .before .before .pre in
-    let F = i .inv .1 m l F₀ in
-    let S = F .stood .stands in
-    let T : Tells file (S .state) (i .at) (Rate f) = subst (Tells file (S .state) (i .at)) (c .before .before .before .before .before .before .f .given .1) (c .before .before .before .before .before .before .before .before .front-at .ensures (S .state) (fills-counts file m l (a .e) (a .floor) (a .ntasks) (a .nchannels) (a .nrelations) (i .s) (i .at) F)) in
-    let r = fills-cycle file m l (a .e) (a .floor) (a .ntasks) (a .nchannels) (a .nrelations) (i .s) (i .at) F more bytes f T same (c .before .if2 .left) (omega arith) in
-    omega (arith, r .0, c .before .before .before .before .before .before .before .before .before .before .before .before .good)
+add-at-4 c = omega (arith, cycle-inside c, c .before .before .before .before .before .before .before .before .before .before .before .before .good)
 
 loop-less-2 : tie.Need-loop-less-2 Inv-loop μ-loop
-loop-less-2 c =
-    let a = c .before .before .before .before .before .before .before .before .before .before .before .before .args in
-    let i = c .before .before .before .before .before .before .before .before .before .before .loop in
-    let file = a .file .now in
-    let more : i .at < length file = c .before .before .before .before .before .before .before .before .before .loop-test .taken in
-    let bytes : Bytes file = bytes-of file (λ j l. omega (arith, c .before .before .before .before .before .before .before .before .before .before .before .shared-slice-known .given j)) in
-    let f = c .before .before .before .before .before .before .f .given .0 .0 in
-    let same : SameList (a .e) f = said (c .before .before .before .before .same-list .result) (c .before .before .before .before .same-list .ensures) (c .before .before .before .if1 .left) in
-    let (m, l, F₀) = c .before .before .before .before .before .before .before .before .before .before .before .before .pre in
-    let F = i .inv .1 m l F₀ in
-    let S = F .stood .stands in
-    let T : Tells file (S .state) (i .at) (Rate f) = subst (Tells file (S .state) (i .at)) (c .before .before .before .before .before .before .f .given .1) (c .before .before .before .before .before .before .before .before .front-at .ensures (S .state) (fills-counts file m l (a .e) (a .floor) (a .ntasks) (a .nchannels) (a .nrelations) (i .s) (i .at) F)) in
-    let r = fills-cycle file m l (a .e) (a .floor) (a .ntasks) (a .nchannels) (a .nrelations) (i .s) (i .at) F more bytes f T same (c .before .if2 .left) (omega arith) in
-    omega (arith, r .0, c .before .before .before .before .before .before .before .before .before .before .before .before .good)
+loop-less-2 c = omega (arith, cycle-inside c)
 
 loop-again-2 : tie.Need-loop-again-2 Inv-loop μ-loop
-loop-again-2 c =
-    let a = c .before .before .before .before .before .before .before .before .before .before .before .before .args in
-    let i = c .before .before .before .before .before .before .before .before .before .before .loop in
-    let file = a .file .now in
-    let more : i .at < length file = c .before .before .before .before .before .before .before .before .before .loop-test .taken in
-    let bytes : Bytes file = bytes-of file (λ j l. omega (arith, c .before .before .before .before .before .before .before .before .before .before .before .shared-slice-known .given j)) in
-    let f = c .before .before .before .before .before .before .f .given .0 .0 in
-    let same : SameList (a .e) f = said (c .before .before .before .before .same-list .result) (c .before .before .before .before .same-list .ensures) (c .before .before .before .if1 .left) in (
-      omega arith,
-      λ m l F₀.
-          let F = i .inv .1 m l F₀ in
-          let S = F .stood .stands in
-          let T : Tells file (S .state) (i .at) (Rate f) = subst (Tells file (S .state) (i .at)) (c .before .before .before .before .before .before .f .given .1) (c .before .before .before .before .before .before .before .before .front-at .ensures (S .state) (fills-counts file m l (a .e) (a .floor) (a .ntasks) (a .nchannels) (a .nrelations) (i .s) (i .at) F)) in
-          let r = fills-cycle file m l (a .e) (a .floor) (a .ntasks) (a .nchannels) (a .nrelations) (i .s) (i .at) F more bytes f T same (c .before .if2 .left) (omega arith) in
-          r .1,
-    )
+loop-again-2 c = (omega arith, λ m l F₀. to-cycle (c .before .before) m l F₀ (c .before .if2 .left) (omega arith))
 
 returns-5 : tie.Need-returns-5 Inv-loop μ-loop
 returns-5 c = search needs
