@@ -78,25 +78,25 @@ module _ (m : Memory) (g : Graph) (L : LaidOut m g) where
           (λ h. one-more j h)
 
   -- the end of the reading
-  pub finish-empty : m .ntasks ≡ 0 → Finishes g (record { reply = NoTask; graph = laid empty })
-  finish-empty z = record {
+  pub finish-empty : m .ntasks ≡ 0 → (n : Memory) → n ≡ laid empty → Finishes g (record { reply = NoTask; graph = n })
+  finish-empty z n nothing = record {
     answer = no-task;
     ends = λ s at e. (refl, subst (λ (h : Graph). length (h .tasks) ≡ 0) (sym e) (sym ntasks-is ∙ z));
     reply = refl;
-    graph = refl;
+    graph = nothing;
   }
 
   module _ (some : ¬ (m .ntasks ≡ 0)) where
     has-task : 0 < length (g .tasks)
     has-task = omega (arith, ntasks-is, some)
 
-    pub finish-hollow : (i : ℕ) → FirstHollow g (At i) → Finishes g (record { reply = EmptyCycle i; graph = laid empty })
-    finish-hollow i f = record {
+    pub finish-hollow : (i : ℕ) → FirstHollow g (At i) → (n : Memory) → n ≡ laid empty → Finishes g (record { reply = EmptyCycle i; graph = n })
+    finish-hollow i f n nothing = record {
       answer = no-entry i;
       ends = λ s at e.
           (refl, subst (λ (h : Graph). 0 < length (h .tasks)) (sym e) has-task, subst (λ (h : Graph). First (Hollow h) i) (sym e) f);
       reply = refl;
-      graph = refl;
+      graph = nothing;
     }
 
     pub finish-whole : FirstHollow g Nothing → Finishes g (record { reply = Accepted (m .ntasks); graph = m })

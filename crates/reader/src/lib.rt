@@ -235,7 +235,7 @@ fn stopped(test: Test, at: usize, graph: Graph) -> Run
 fn records(file: &[u8]) -> Run
     ensures { λ r. ⌜ Ended (now (file .entry)) r ⌝ }
 {
-    let mut graph = Graph::EMPTY;
+    let mut graph = Graph::empty();
     let mut floor: u32 = 0;
     let mut at: usize = 0;
     while at < file.len() {
@@ -329,13 +329,13 @@ fn finish(graph: Graph) -> Reading
     if n == 0 {
         return Reading {
             reply: Reply::NoTask,
-            graph: Graph::EMPTY,
+            graph: Graph::empty(),
         };
     }
     match hollow(graph) {
         Found::At { index } => Reading {
             reply: Reply::EmptyCycle { place: index },
-            graph: Graph::EMPTY,
+            graph: Graph::empty(),
         },
         Found::Nothing => Reading {
             reply: Reply::Accepted { tasks: n },
@@ -353,7 +353,7 @@ pub fn read(file: &[u8]) -> Reading
     let graph = run.graph;
     match end {
         End::Stopped { test, at } => {
-            let nothing = Graph::EMPTY;
+            let nothing = Graph::empty();
             Reading {
                 reply: stop_reply(test, at),
                 graph: nothing,

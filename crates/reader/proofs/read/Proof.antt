@@ -1,7 +1,6 @@
 -- `reader::read` meets its contract: by how the records end. Assumes nothing.
 use mathlib.Core.Path.{subst, refl}
 use borrow.Author.Needs.{needs}
-use Rattle.graph.specs.Memory.{laid, pad}
 use Rattle.format.specs.Reader.{stopped}
 use Rattle.reader.specs.Records.{test-of, AllRead, EndedBy}
 use Rattle.reader.proofs.read.Statement.{statement}
@@ -12,6 +11,9 @@ records-requires c κs = search needs
 
 enum-known-end : tie.Need-enum-known-end
 enum-known-end c = search needs
+
+empty-requires : tie.Need-empty-requires
+empty-requires c κs = search needs
 
 stop-reply-requires : tie.Need-stop-reply-requires
 stop-reply-requires c κs = search needs
@@ -27,16 +29,15 @@ finish-requires c κs =
     (E .state .graph, E .laid-out)
 
 returns : tie.Need-returns
-unfolding laid pad
 returns c =
-    let v = c .before .before .end .given .0 in
-    let r = c .before .before .before .before .before .records in
-    let file = c .before .before .before .before .before .before .before .args .file .now in
+    let v = c .before .before .before .end .given .0 in
+    let r = c .before .before .before .before .before .before .records in
+    let file = c .before .before .before .before .before .before .before .before .args .file .now in
     record {
       answer = stopped (test-of (v .0)) (v .1 .0);
-      means = subst (EndedBy file (r .result .graph)) (c .before .before .end .given .1) (r .ensures);
+      means = subst (EndedBy file (r .result .graph)) (c .before .before .before .end .given .1) (r .ensures);
       reply = c .stop-reply .ensures;
-      graph = refl;
+      graph = c .before .empty .ensures;
     }
 
 returns-2 : tie.Need-returns-2
@@ -58,6 +59,7 @@ read-spec =
     (tie.spec
     records-requires
     enum-known-end
+    empty-requires
     stop-reply-requires
     enum-told
     finish-requires

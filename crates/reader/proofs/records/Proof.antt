@@ -1,5 +1,5 @@
 -- `reader::records` meets its contract: good records have led to a state whose graph is laid out in memory. The measure is what is left of the file. Assumes nothing.
-use mathlib.Core.Path.{_≡_, refl, subst}
+use mathlib.Core.Path.{_≡_, refl, sym, subst}
 use mathlib.Core.List.{List}
 use Prim.Native.Nat.{ℕ, _+_, _-_, _<_}
 use native.Mathlib.Omega.{arith}
@@ -27,15 +27,20 @@ Inv-loop file graph₀ floor₀ at₀ graph floor at = Stands file graph floor a
 abbrev μ-loop : tie.MeasureT-loop
 μ-loop file graph₀ floor₀ at₀ graph floor at = length file - at
 
+empty-requires : tie.Need-empty-requires Inv-loop μ-loop
+empty-requires c κs = search needs
+
 loop-holds : tie.Need-loop-holds Inv-loop μ-loop
 unfolding laid pad
-loop-holds c = loop.stands-start (c .before .args .file .now)
+loop-holds c =
+    let file = c .before .before .args .file .now in
+    subst (λ g. Stands file g 0 0) (sym (c .empty .ensures)) (loop.stands-start file)
 
 -- ---- a turn of the loop: where it stands, and what the record at that place is
 
 module _ (c : tie.After-front-at Inv-loop μ-loop) where
   abbrev file : List ℕ
-  file = c .before .before .before .before .args .file .now
+  file = c .before .before .before .before .before .args .file .now
 
   abbrev graph : Memory
   graph = c .before .before .loop .graph
@@ -53,7 +58,7 @@ module _ (c : tie.After-front-at Inv-loop μ-loop) where
   more = c .before .loop-test .taken
 
   bytes : Bytes file
-  bytes = bytes-of file (λ j l. omega (arith, c .before .before .before .shared-slice-known .given j))
+  bytes = bytes-of file (λ j l. omega (arith, c .before .before .before .before .shared-slice-known .given j))
 
   told : (f : Front) → c .front-at .result ≡ f → Tells file (stands .state) at f
   told f e = subst (Tells file (stands .state) at) e (c .front-at .ensures (stands .state) (loop.stands-counts file graph floor at stands))
@@ -121,8 +126,8 @@ enum-known-h c = search needs
 link-of-requires : tie.Need-link-of-requires Inv-loop μ-loop
 link-of-requires c κs = search needs
 
-mul-t42 : tie.Need-mul-t42 Inv-loop μ-loop
-mul-t42 c = omega (arith, channel-step c _ refl .0)
+mul-t30 : tie.Need-mul-t30 Inv-loop μ-loop
+mul-t30 c = omega (arith, channel-step c _ refl .0)
 
 element-set-from-graph : tie.Need-element-set-from-graph Inv-loop μ-loop
 element-set-from-graph c = let room = channel-step c _ refl .0 in search needs
@@ -307,7 +312,7 @@ returns-3 c =
     record {
       state = S .state;
       at = i .at;
-      so = λ a e. leads-end (c .before .before .before .args .file .now) (S .state) (i .at) (S .leads) (omega arith) a e;
+      so = λ a e. leads-end (c .before .before .before .before .args .file .now) (S .state) (i .at) (S .leads) (omega arith) a e;
       laid-out = record { is = S .laid-out; few = S .few };
     }
 
@@ -317,6 +322,7 @@ records-spec =
     (tie.spec
     Inv-loop
     μ-loop
+    empty-requires
     loop-holds
     front-at-requires
     enum-known-t
@@ -331,7 +337,7 @@ records-spec =
     loop-again
     enum-known-h
     link-of-requires
-    mul-t42
+    mul-t30
     element-set-from-graph
     add-graph-2
     rank-of-requires-2
