@@ -3,6 +3,7 @@ ghost use mathlib.Core.Path.{_≡_};
 ghost use Prim.Native.Nat.{_+_, _*_, _-_, _%_, _≤_, _<_, min};
 ghost use lib.Dec.{eqb};
 ghost use lib.ListN.{length};
+ghost use Rattle.graph.specs.Model.{max-cycle};
 ghost use Rattle.channels.specs.Sides.{joinedOf, paceOf, sideOf, joinedAt, Ready, Weighable, turnOf, Turned};
 ghost use Rattle.channels.specs.Answers.{Spans, Measured, Searchable, Finds, Countable, jobsOf, Repeats, Decides};
 ghost use Rattle.channel.specs.Judge.{Means};
@@ -51,7 +52,7 @@ fn wide(tokens: u16) -> u64
 
 // What one turn of a cycle moves.
 fn turn(cycle: &[u16]) -> u64
-    requires { do ⌜ (← ⟦cycle.len()⟧) ≤ 32 ⌝ }
+    requires { do ⌜ (← ⟦cycle.len()⟧) ≤ max-cycle ⌝ }
     ensures { λ r. ⌜ Turned (now (cycle .entry)) r ⌝ }
 {
     let mut sum: u64 = 0;
@@ -65,7 +66,7 @@ fn turn(cycle: &[u16]) -> u64
 
 // Both cycles move as much in the long run: compared as whole products.
 fn balanced<'a>(production: &'a [u16], consumption: &'a [u16], pperiod: u64, cperiod: u64) -> bool
-    requires { do ⌜ ((← ⟦production.len()⟧) ≤ 32) × ((← ⟦consumption.len()⟧) ≤ 32) ⌝ }
+    requires { do ⌜ ((← ⟦production.len()⟧) ≤ max-cycle) × ((← ⟦consumption.len()⟧) ≤ max-cycle) ⌝ }
     requires { ⌜ (pperiod ≤ 1000000) × (cperiod ≤ 1000000) ⌝ }
     ensures { λ r. ⌜ r ≡ eqb (turnOf (now (production .entry)) * length (now (consumption .entry)) * cperiod) (turnOf (now (consumption .entry)) * length (now (production .entry)) * pperiod) ⌝ }
 {

@@ -3,6 +3,7 @@ ghost use mathlib.Core.Path.{_≡_};
 ghost use mathlib.Core.List.{_++_};
 ghost use Prim.Native.Nat.{_≤_};
 ghost use lib.ListN.{length, take, drop};
+ghost use Rattle.graph.specs.Model.{max-tasks, max-channels, max-relations};
 ghost use Rattle.numbers.specs.Lists.{All};
 ghost use Rattle.format.specs.Ranges.{TaskRange, RelationRange};
 ghost use Rattle.rules.specs.Given.{Of};
@@ -28,8 +29,8 @@ pub enum Outcome {
 }
 
 // Tests 8 and 9: priorities, and the room in the report.
-fn task_tests(tasks: [Task; 32], n: usize, room: usize) -> Outcome
-    requires { ⌜ n ≤ 32 ⌝ }
+fn task_tests(tasks: [Task; Graph::TASKS], n: usize, room: usize) -> Outcome
+    requires { ⌜ n ≤ max-tasks ⌝ }
     ensures { λ r. ⌜ Behind 8 10 room (λ g. g .tasks ≡ take n tasks) r ⌝ }
 {
     match tasks::same_priority(tasks, n) {
@@ -50,14 +51,14 @@ fn task_tests(tasks: [Task; 32], n: usize, room: usize) -> Outcome
 
 // Test 10: the relations.
 fn relation_tests(
-    tasks: [Task; 32],
+    tasks: [Task; Graph::TASKS],
     n: usize,
-    relations: [Relation; 64],
+    relations: [Relation; Graph::RELATIONS],
     m: usize,
     room: usize,
 ) -> Outcome
     requires { ⌜ Sound tasks n ⌝ }
-    requires { ⌜ (m ≤ 64) × All (RelationRange n) (take m relations) ⌝ }
+    requires { ⌜ (m ≤ max-relations) × All (RelationRange n) (take m relations) ⌝ }
     ensures { λ r. ⌜ Behind 10 11 room (λ g. (g .tasks ≡ take n tasks) × (g .relations ≡ take m relations)) r ⌝ }
 {
     match relations::false_relation(tasks, n, relations, m) {
@@ -71,12 +72,12 @@ fn relation_tests(
 // What the tests of the times found, and the figures where they found nothing.
 struct Timing {
     outcome: Outcome,
-    figures: [u32; 32],
+    figures: [u32; Graph::TASKS],
 }
 
 // Tests 11 and 12: late tasks, and the load.
-fn time_tests(tasks: [Task; 32], n: usize, room: usize) -> Timing
-    requires { ⌜ n ≤ 32 ⌝ }
+fn time_tests(tasks: [Task; Graph::TASKS], n: usize, room: usize) -> Timing
+    requires { ⌜ n ≤ max-tasks ⌝ }
     requires { ⌜ All TaskRange (take n tasks) ⌝ }
     ensures { λ r. ⌜ Behind 11 13 room (λ g. g .tasks ≡ take n tasks) (r .outcome) ⌝ }
     ensures { λ r. ⌜ Of (take n tasks) (λ g. Times g (r .figures) (r .outcome)) ⌝ }
@@ -138,7 +139,7 @@ fn window(task: Task) -> u32
 }
 
 // Tests 13 to 17 of channel c.
-fn channel_test(tasks: [Task; 32], n: usize, channel: Channel, c: usize) -> Outcome
+fn channel_test(tasks: [Task; Graph::TASKS], n: usize, channel: Channel, c: usize) -> Outcome
     requires { ⌜ Sound tasks n ⌝ }
     requires { ⌜ ChannelFormed n channel ⌝ }
     ensures { λ r. ⌜ Tells tasks c channel r ⌝ }
@@ -159,14 +160,14 @@ fn channel_test(tasks: [Task; 32], n: usize, channel: Channel, c: usize) -> Outc
 
 // Tests 13 to 17, channel by channel.
 fn channel_tests(
-    tasks: [Task; 32],
+    tasks: [Task; Graph::TASKS],
     n: usize,
-    channels: [Channel; 64],
+    channels: [Channel; Graph::CHANNELS],
     m: usize,
     room: usize,
 ) -> Outcome
     requires { ⌜ Sound tasks n ⌝ }
-    requires { ⌜ (m ≤ 64) × All (ChannelFormed n) (take m channels) ⌝ }
+    requires { ⌜ (m ≤ max-channels) × All (ChannelFormed n) (take m channels) ⌝ }
     ensures { λ r. ⌜ Behind 13 14 room (Made tasks n channels m) r ⌝ }
 {
     let mut c: usize = 0;
@@ -197,14 +198,14 @@ fn all_tests(graph: Graph, room: usize) -> Timing
     if let Outcome::Refused { reply: _ } = first {
         return Timing {
             outcome: first,
-            figures: [0; 32],
+            figures: [0; Graph::TASKS],
         };
     }
     let second = relation_tests(tasks, n, relations, nrelations, room);
     if let Outcome::Refused { reply: _ } = second {
         return Timing {
             outcome: second,
-            figures: [0; 32],
+            figures: [0; Graph::TASKS],
         };
     }
     let third = time_tests(tasks, n, room);
@@ -223,8 +224,8 @@ fn all_tests(graph: Graph, room: usize) -> Timing
 }
 
 // The figures into the first n places of the report.
-fn fill(figures: [u32; 32], n: usize, report: &mut [u32])
-    requires { ⌜ (n ≤ 32) × (n ≤ length (now report)) ⌝ }
+fn fill(figures: [u32; Graph::TASKS], n: usize, report: &mut [u32])
+    requires { ⌜ (n ≤ max-tasks) × (n ≤ length (now report)) ⌝ }
     ensures { λ _. ⌜ now (report .exit) ≡ take n figures ++ drop n (now (report .entry)) ⌝ }
 {
     let mut i: usize = 0;

@@ -7,7 +7,7 @@ use graph::Task;
 ghost use mathlib.Core.Path.{_≡_};
 ghost use Prim.Native.Nat.{_≤_, _<_};
 ghost use lib.IntN.{natAbs};
-ghost use Rattle.graph.specs.Model.{million, no-task, no-rates, no-relation};
+ghost use Rattle.graph.specs.Model.{million, no-task, no-rates, no-relation, max-tasks, max-channels, max-relations};
 ghost use Rattle.graph.specs.Memory.{laid-rates, zero-link};
 ghost use Rattle.format.specs.Ranges.{TaskRange, RelationRange};
 ghost use Rattle.formed.specs.Formed.{WellFormed, Tells, Zeros, SideFormed, ChannelFormed, Place, Places};
@@ -259,7 +259,7 @@ fn relation_place(r: Relation, i: usize, n: usize, count: usize) -> bool
 
 // Whether the first n places hold tasks that are formed, and the rest zero.
 fn tasks_formed(tasks: [Task; Graph::TASKS], n: usize) -> bool
-    requires { ⌜ n ≤ 32 ⌝ }
+    requires { ⌜ n ≤ max-tasks ⌝ }
     ensures { λ r. ⌜ Tells (Places TaskRange 32 no-task n tasks) r ⌝ }
 {
     let mut i: usize = 0;
@@ -275,7 +275,7 @@ fn tasks_formed(tasks: [Task; Graph::TASKS], n: usize) -> bool
 
 // The same of channels among so many tasks.
 fn channels_formed(channels: [Channel; Graph::CHANNELS], n: usize, count: usize) -> bool
-    requires { ⌜ n ≤ 64 ⌝ }
+    requires { ⌜ n ≤ max-channels ⌝ }
     ensures { λ r. ⌜ Tells (Places (ChannelFormed count) 64 zero-link n channels) r ⌝ }
 {
     let mut i: usize = 0;
@@ -291,7 +291,7 @@ fn channels_formed(channels: [Channel; Graph::CHANNELS], n: usize, count: usize)
 
 // The same of relations.
 fn relations_formed(relations: [Relation; Graph::RELATIONS], n: usize, count: usize) -> bool
-    requires { ⌜ n ≤ 64 ⌝ }
+    requires { ⌜ n ≤ max-relations ⌝ }
     ensures { λ a. ⌜ Tells (Places (RelationRange count) 64 no-relation n relations) a ⌝ }
 {
     let mut i: usize = 0;

@@ -3,6 +3,7 @@ ghost use mathlib.Core.Path.{_≡_};
 ghost use Prim.Native.Nat.{_≤_, _<_};
 ghost use mathlib.Core.Bool.{true, false};
 ghost use lib.ListN.{take};
+ghost use Rattle.graph.specs.Model.{max-tasks, max-relations};
 ghost use Rattle.numbers.specs.Lists.{All};
 ghost use Rattle.reply.specs.Found.{Finds};
 ghost use Rattle.format.specs.Ranges.{TaskRange, RelationRange};
@@ -10,6 +11,7 @@ ghost use Rattle.rules.specs.Given.{Of};
 ghost use Rattle.rules.specs.Rules.{Holds, Fails};
 ghost use Rattle.relations.specs.Find.{found};
 ghost use Rattle.relations.specs.Relation.{Equations, Small, Both};
+use graph::Graph;
 use graph::Relation;
 use graph::Task;
 use reply::Found;
@@ -35,8 +37,8 @@ fn find(tasks: &[Task], i: usize) -> Named
 }
 
 // The same of the first n of an array, which are lent.
-pub fn find_among(tasks: [Task; 32], n: usize, i: usize) -> Named
-    requires { ⌜ n ≤ 32 ⌝ }
+pub fn find_among(tasks: [Task; Graph::TASKS], n: usize, i: usize) -> Named
+    requires { ⌜ n ≤ max-tasks ⌝ }
     ensures { λ r. ⌜ r ≡ found (take n tasks) i ⌝ }
 {
     find(&tasks[..n], i)
@@ -57,8 +59,8 @@ fn equations(tp: u32, op: u32, tq: u32, oq: u32, n: u32, phi: i32, d: u32) -> bo
 }
 
 // The relation holds among the first n tasks.
-fn holds(tasks: [Task; 32], n: usize, relation: Relation) -> bool
-    requires { ⌜ n ≤ 32 ⌝ }
+fn holds(tasks: [Task; Graph::TASKS], n: usize, relation: Relation) -> bool
+    requires { ⌜ n ≤ max-tasks ⌝ }
     requires { ⌜ All TaskRange (take n tasks) ⌝ }
     requires { ⌜ RelationRange n relation ⌝ }
     ensures { λ r. ⌜ Of (take n tasks) (λ g. (r ≡ true → Holds g relation) × (r ≡ false → ¬ Holds g relation)) ⌝ }
@@ -83,9 +85,14 @@ fn holds(tasks: [Task; 32], n: usize, relation: Relation) -> bool
 }
 
 // Test 10: the first relation that is false.
-pub fn false_relation(tasks: [Task; 32], n: usize, relations: [Relation; 64], m: usize) -> Found
-    requires { ⌜ n ≤ 32 ⌝ }
-    requires { ⌜ m ≤ 64 ⌝ }
+pub fn false_relation(
+    tasks: [Task; Graph::TASKS],
+    n: usize,
+    relations: [Relation; Graph::RELATIONS],
+    m: usize,
+) -> Found
+    requires { ⌜ n ≤ max-tasks ⌝ }
+    requires { ⌜ m ≤ max-relations ⌝ }
     requires { ⌜ All TaskRange (take n tasks) ⌝ }
     requires { ⌜ All (RelationRange n) (take m relations) ⌝ }
     ensures { λ r. ⌜ Both (take n tasks) (take m relations) (λ g. Finds (Fails g) m r) ⌝ }

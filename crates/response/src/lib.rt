@@ -4,13 +4,14 @@ ghost use Prim.Native.Nat.{ℕ, _+_, _≤_, _<_};
 ghost use lib.ListN.{length, take};
 ghost use Rattle.numbers.specs.Numbers.{ceil};
 ghost use Rattle.machine.specs.Machine.{above};
-ghost use Rattle.graph.specs.Model.{Graph, count, task};
+ghost use Rattle.graph.specs.Model.{Graph as Model, count, task, max-tasks, million};
 ghost use Rattle.numbers.specs.Lists.{All};
 ghost use Rattle.format.specs.Ranges.{TaskRange};
 ghost use Rattle.rules.specs.Given.{Of};
 ghost use Rattle.rules.specs.Terms.{machine};
 ghost use Rattle.response.specs.Columns.{asked, hindrance, Cells, Searched};
 ghost use Rattle.response.specs.Response.{Responds, Judged};
+use graph::Graph;
 use graph::Task;
 use reply::Found;
 use tasks::cost;
@@ -23,36 +24,36 @@ pub enum Response {
 
 // The costs and periods of the tasks that interfere with one: the first `count` places.
 struct Columns {
-    costs: [u32; 32],
-    periods: [u32; 32],
+    costs: [u32; Graph::TASKS],
+    periods: [u32; Graph::TASKS],
     count: usize,
 }
 
 // The figures of all tasks, and the first that is late.
 pub struct Responses {
-    pub figures: [u32; 32],
+    pub figures: [u32; Graph::TASKS],
     pub late: Found,
 }
 
 // The other task takes the processor from this one.
 fn interferes(other: Task, one: Task) -> bool
-    ensures { λ r. ⌜ ((g : Graph) (i j : ℕ) → task g i ≡ one → task g j ≡ other → r ≡ above (machine g) i j) ⌝ }
+    ensures { λ r. ⌜ ((g : Model) (i j : ℕ) → task g i ≡ one → task g j ≡ other → r ≡ above (machine g) i j) ⌝ }
 {
     other.priority < one.priority
 }
 
 // The columns of task i.
-fn gather(tasks: [Task; 32], n: usize, i: usize) -> Columns
-    requires { ⌜ n ≤ 32 ⌝ }
+fn gather(tasks: [Task; Graph::TASKS], n: usize, i: usize) -> Columns
+    requires { ⌜ n ≤ max-tasks ⌝ }
     requires { ⌜ All TaskRange (take n tasks) ⌝ }
     requires { ⌜ i < n ⌝ }
-    ensures { λ r. ⌜ r .count ≤ 32 ⌝ }
+    ensures { λ r. ⌜ r .count ≤ max-tasks ⌝ }
     ensures { λ r. ⌜ Cells (r .costs) (r .periods) (r .count) ⌝ }
     ensures { λ r. ⌜ Of (take n tasks) (λ g. (w : ℕ) → asked (r .costs) (r .periods) (r .count) w ≡ hindrance g i (count g) w) ⌝ }
 {
     let mine = tasks[i];
-    let mut costs: [u32; 32] = [0; 32];
-    let mut periods: [u32; 32] = [0; 32];
+    let mut costs: [u32; Graph::TASKS] = [0; Graph::TASKS];
+    let mut periods: [u32; Graph::TASKS] = [0; Graph::TASKS];
     let mut count: usize = 0;
     let mut j: usize = 0;
     while j < n {
@@ -73,7 +74,7 @@ fn gather(tasks: [Task; 32], n: usize, i: usize) -> Columns
 
 // The jobs of a period that are released within w ticks.
 fn jobs(w: u32, period: u32) -> u32
-    requires { ⌜ (w ≤ 1_000_000) × ((1 ≤ period) × (period ≤ 1_000_000)) ⌝ }
+    requires { ⌜ (w ≤ million) × ((1 ≤ period) × (period ≤ million)) ⌝ }
     ensures { λ r. ⌜ r ≡ ceil w period ⌝ }
 {
     (w + (period - 1)) / period
@@ -81,7 +82,7 @@ fn jobs(w: u32, period: u32) -> u32
 
 // The demand at w of a task that costs `own`, over its columns.
 fn demand(own: u32, costs: &[u32], periods: &[u32], w: u32) -> u64
-    requires { ⌜ (own ≤ 1_000_000) × ((w ≤ 1_000_000) × (length (now costs) ≤ 32)) ⌝ }
+    requires { ⌜ (own ≤ million) × ((w ≤ million) × (length (now costs) ≤ max-tasks)) ⌝ }
     requires { ⌜ length (now periods) ≡ length (now costs) ⌝ }
     requires { ⌜ Cells (now costs) (now periods) (length (now costs)) ⌝ }
     ensures { λ r. ⌜ r ≡ own + asked (now (costs .entry)) (now (periods .entry)) (length (now (costs .entry))) w ⌝ }
@@ -97,7 +98,7 @@ fn demand(own: u32, costs: &[u32], periods: &[u32], w: u32) -> u64
 
 // The least w from 1 to the limit whose demand is at most w.
 fn search(own: u32, limit: u32, costs: &[u32], periods: &[u32]) -> Response
-    requires { ⌜ (own ≤ 1_000_000) × ((limit ≤ 1_000_000) × (length (now costs) ≤ 32)) ⌝ }
+    requires { ⌜ (own ≤ million) × ((limit ≤ million) × (length (now costs) ≤ max-tasks)) ⌝ }
     requires { ⌜ length (now periods) ≡ length (now costs) ⌝ }
     requires { ⌜ Cells (now costs) (now periods) (length (now costs)) ⌝ }
     ensures { λ r. ⌜ Searched (λ w. own + asked (now (costs .entry)) (now (periods .entry)) (length (now (costs .entry))) w) limit r ⌝ }
@@ -113,8 +114,8 @@ fn search(own: u32, limit: u32, costs: &[u32], periods: &[u32]) -> Response
 }
 
 // The response of task i.
-pub fn respond(tasks: [Task; 32], n: usize, i: usize) -> Response
-    requires { ⌜ n ≤ 32 ⌝ }
+pub fn respond(tasks: [Task; Graph::TASKS], n: usize, i: usize) -> Response
+    requires { ⌜ n ≤ max-tasks ⌝ }
     requires { ⌜ All TaskRange (take n tasks) ⌝ }
     requires { ⌜ i < n ⌝ }
     ensures { λ r. ⌜ Of (take n tasks) (λ g. Responds g i r) ⌝ }
@@ -133,19 +134,19 @@ pub fn respond(tasks: [Task; 32], n: usize, i: usize) -> Response
 }
 
 // Test 11: the response of every task, up to the first that is late.
-pub fn respond_all(tasks: [Task; 32], n: usize) -> Responses
-    requires { ⌜ n ≤ 32 ⌝ }
+pub fn respond_all(tasks: [Task; Graph::TASKS], n: usize) -> Responses
+    requires { ⌜ n ≤ max-tasks ⌝ }
     requires { ⌜ All TaskRange (take n tasks) ⌝ }
     ensures { λ r. ⌜ Of (take n tasks) (λ g. Judged g n (r .figures) (r .late)) ⌝ }
 {
-    let mut figures: [u32; 32] = [0; 32];
+    let mut figures: [u32; Graph::TASKS] = [0; Graph::TASKS];
     let mut i: usize = 0;
     while i < n {
         let response = respond(tasks, n, i);
         match response {
             Response::Late => {
                 return Responses {
-                    figures: [0; 32],
+                    figures: [0; Graph::TASKS],
                     late: Found::At { index: i },
                 };
             }

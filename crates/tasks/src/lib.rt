@@ -4,6 +4,7 @@ ghost use mathlib.Core.Bool.{true, false};
 ghost use Prim.Native.Nat.{_≤_, _<_};
 ghost use lib.Dec.{ltb};
 ghost use lib.ListN.{take};
+ghost use Rattle.graph.specs.Model.{max-tasks};
 ghost use Rattle.reply.specs.Found.{Finds};
 ghost use Rattle.numbers.specs.Lists.{All};
 ghost use Rattle.format.specs.Ranges.{TaskRange};
@@ -11,11 +12,12 @@ ghost use Rattle.rules.specs.Given.{Of};
 ghost use Rattle.rules.specs.Rules.{Repeats, load};
 ghost use Rattle.rules.specs.Terms.{cost-of};
 ghost use Rattle.tasks.specs.Tasks.{Before, share};
+use graph::Graph;
 use graph::Task;
 use reply::Found;
 
 // An earlier task has the priority of task i.
-fn seen(tasks: [Task; 32], i: usize) -> bool
+fn seen(tasks: [Task; Graph::TASKS], i: usize) -> bool
     requires { ⌜ i < 32 ⌝ }
     ensures { λ r. ⌜ (r ≡ true → Before tasks i) ⌝ }
     ensures { λ r. ⌜ (r ≡ false → ¬ Before tasks i) ⌝ }
@@ -33,8 +35,8 @@ fn seen(tasks: [Task; 32], i: usize) -> bool
 }
 
 // Test 8: the first task whose priority was seen before.
-pub fn same_priority(tasks: [Task; 32], n: usize) -> Found
-    requires { ⌜ n ≤ 32 ⌝ }
+pub fn same_priority(tasks: [Task; Graph::TASKS], n: usize) -> Found
+    requires { ⌜ n ≤ max-tasks ⌝ }
     ensures { λ r. ⌜ Of (take n tasks) (λ g. Finds (Repeats g) n r) ⌝ }
 {
     let mut i: usize = 0;
@@ -63,8 +65,8 @@ fn share_of(task: Task) -> u64
 }
 
 // Test 12: the shares add up to more than a million.
-pub fn overloaded(tasks: [Task; 32], n: usize) -> bool
-    requires { ⌜ n ≤ 32 ⌝ }
+pub fn overloaded(tasks: [Task; Graph::TASKS], n: usize) -> bool
+    requires { ⌜ n ≤ max-tasks ⌝ }
     requires { ⌜ All TaskRange (take n tasks) ⌝ }
     ensures { λ r. ⌜ Of (take n tasks) (λ g. r ≡ ltb 1_000_000 (load g)) ⌝ }
 {

@@ -3,6 +3,7 @@ ghost use mathlib.Core.Path.{_≡_};
 ghost use mathlib.Core.List.{map};
 ghost use Prim.Native.Nat.{_+_, _*_, _≤_};
 ghost use lib.ListN.{length, take};
+ghost use Rattle.graph.specs.Model.{max-tasks, max-channels, max-relations};
 ghost use Rattle.numbers.specs.Lists.{All};
 ghost use Rattle.graph.specs.Memory.{view, view-rates, view-link};
 ghost use Rattle.format.specs.Record.{be, wrap, encode, encodes, task, channel, rate, relation};
@@ -120,7 +121,7 @@ fn put_relation(r: Relation, at: usize, out: &mut [u8]) -> usize
 
 // The records of the first n tasks.
 fn put_tasks(tasks: [Task; Graph::TASKS], n: usize, at: usize, out: &mut [u8]) -> usize
-    requires { ⌜ (n ≤ 32) × (at + n * 18 ≤ length (now out)) ⌝ }
+    requires { ⌜ (n ≤ max-tasks) × (at + n * 18 ≤ length (now out)) ⌝ }
     ensures { λ r. ⌜ Puts (now (out .entry)) at (encodes (map task (take n tasks))) (now (out .exit)) r ⌝ }
 {
     let mut next = at;
@@ -135,7 +136,7 @@ fn put_tasks(tasks: [Task; Graph::TASKS], n: usize, at: usize, out: &mut [u8]) -
 
 // The records of the first n channels.
 fn put_channels(channels: [Channel; Graph::CHANNELS], n: usize, at: usize, out: &mut [u8]) -> usize
-    requires { ⌜ (n ≤ 64) × (at + n * 11 ≤ length (now out)) ⌝ }
+    requires { ⌜ (n ≤ max-channels) × (at + n * 11 ≤ length (now out)) ⌝ }
     ensures { λ r. ⌜ Puts (now (out .entry)) at (encodes (map headOf (take n channels))) (now (out .exit)) r ⌝ }
 {
     let mut next = at;
@@ -155,7 +156,7 @@ fn put_relations(
     at: usize,
     out: &mut [u8],
 ) -> usize
-    requires { ⌜ (n ≤ 64) × (at + n * 15 ≤ length (now out)) ⌝ }
+    requires { ⌜ (n ≤ max-relations) × (at + n * 15 ≤ length (now out)) ⌝ }
     ensures { λ r. ⌜ Puts (now (out .entry)) at (encodes (map relation (take n relations))) (now (out .exit)) r ⌝ }
 {
     let mut next = at;
@@ -209,7 +210,7 @@ fn put_link(c: Channel, i: u8, at: usize, out: &mut [u8]) -> usize
 
 // The records of the rates of the first n channels.
 fn put_links(channels: [Channel; Graph::CHANNELS], n: usize, at: usize, out: &mut [u8]) -> usize
-    requires { ⌜ (n ≤ 64) × (All LinkFits (take n channels) × (at + length (ratesOf n channels) * 6 ≤ length (now out))) ⌝ }
+    requires { ⌜ (n ≤ max-channels) × (All LinkFits (take n channels) × (at + length (ratesOf n channels) * 6 ≤ length (now out))) ⌝ }
     ensures { λ r. ⌜ Puts (now (out .entry)) at (encodes (ratesOf n channels)) (now (out .exit)) r ⌝ }
 {
     let mut next = at;
@@ -224,7 +225,7 @@ fn put_links(channels: [Channel; Graph::CHANNELS], n: usize, at: usize, out: &mu
 
 // How many entries the rates of the first n channels have.
 fn entries_of(channels: [Channel; Graph::CHANNELS], n: usize) -> usize
-    requires { ⌜ (n ≤ 64) × All LinkFits (take n channels) ⌝ }
+    requires { ⌜ (n ≤ max-channels) × All LinkFits (take n channels) ⌝ }
     ensures { λ r. ⌜ r ≡ length (ratesOf n channels) ⌝ }
 {
     let mut total: usize = 0;
