@@ -12,10 +12,10 @@ use compare::verified::{self, Reply};
 use std::hint::black_box;
 
 /// The fewest and the most rounds of a file.
-const ROUNDS: (u32, u32) = (3, 25);
+const ROUNDS: (u32, u32) = (3, 100);
 /// A round repeats its call for at least so many seconds, and a file's rounds end after so many.
 const ROUND: f64 = 0.004;
-const FILE: f64 = 1.0;
+const FILE: f64 = 4.0;
 
 /// What is called: a file in, a reply out.
 type Call = fn(&[u8], &mut Buffers) -> Reply;
