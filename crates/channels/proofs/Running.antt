@@ -4,12 +4,14 @@ use mathlib.Core.List.{List}
 use Prim.Native.Nat.{ℕ, suc, _+_, _*_, _-_, _≤_, _<_, zero-le}
 use native.Mathlib.Nat.{mul-le-mul, mul-le-mul-right}
 use native.Mathlib.Numerals.{add-one}
+use native.Mathlib.Decide.{decLt}
 use native.Mathlib.Omega.{arith}
 use lib.ListN.{length, getD}
 use Rattle.numbers.specs.Lists.{First}
 use Rattle.numbers.proofs.Sums.{extend, sum-zero, sum-suc}
 use Rattle.graph.specs.Rates.{listOf, placeOf, rateOf, nextPlace}
 use Rattle.graph.proofs.Places.{place-first, place-next, place-there}
+use Rattle.graph.proofs.Rates.{in-prefix, in-cycle}
 use Rattle.channel.specs.Side.{Side, Sound, rate, total, ended, Short}
 use Rattle.channel.specs.Side as side
 use Rattle.channel.proofs.Jobs.{ended-iff, ended-is, ended-mono, ended-few}
@@ -66,6 +68,14 @@ next-is s m place list p l = rw (p, l) (sym (place-next (s .prefix) (s .cycle) m
 pub there : (s : Side) → Limited s → (m place : ℕ) (list : List ℕ) → place ≡ placeOf (s .prefix) (s .cycle) m
     → list ≡ listOf (s .prefix) (s .cycle) m → place < length list
 there s ok m place list p l = rw (p, l) (place-there (s .prefix) (s .cycle) m (ok .some-rate))
+
+-- which is short
+pub few : (s : Side) → Limited s → (m : ℕ) (list : List ℕ) → list ≡ listOf (s .prefix) (s .cycle) m → length list ≤ 32
+few s ok m list l = go (decLt m (length (s .prefix)))
+  where
+    go : Dec (m < length (s .prefix)) → length list ≤ 32
+    go (yes h) = omega (arith, ap length (l ∙ sym (in-prefix (s .prefix) (s .cycle) m h)), ok .prefix-most)
+    go (no h) = omega (arith, ap length (l ∙ sym (in-cycle (s .prefix) (s .cycle) m (omega arith))), ok .cycle-most)
 
 module _ (t g : Side) (stock jobs : ℕ) (ok : Searchable t g stock jobs) where
   pub at-start : At t g stock jobs (t .offset) (g .offset + g .window) stock 0 0 0 0

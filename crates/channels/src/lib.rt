@@ -128,23 +128,29 @@ fn first_short<'a>(
     let mut gplace: usize = 0;
     let mut k: u64 = 0;
     let mut q: u64 = 0;
+    let mut tlist = list_at(tprefix, tcycle, k);
+    let mut glist = list_at(gprefix, gcycle, q);
     while k < jobs {
         if end <= release {
-            let list = list_at(gprefix, gcycle, q);
-            spare += wide(list[gplace]);
-            gplace = next_place(list.len(), gplace);
+            spare += wide(glist[gplace]);
+            gplace = next_place(glist.len(), gplace);
             q += 1;
             end += gperiod;
+            if gplace == 0 {
+                glist = list_at(gprefix, gcycle, q);
+            }
         } else {
-            let list = list_at(tprefix, tcycle, k);
-            let rate = wide(list[tplace]);
+            let rate = wide(tlist[tplace]);
             if spare < rate {
                 return Search::Short { job: k };
             }
             spare -= rate;
-            tplace = next_place(list.len(), tplace);
+            tplace = next_place(tlist.len(), tplace);
             k += 1;
             release += tperiod;
+            if tplace == 0 {
+                tlist = list_at(tprefix, tcycle, k);
+            }
         }
     }
     Search::Nothing
