@@ -3,9 +3,8 @@ use mathlib.Core.Path.{_≡_, sym, ap, _∙_, subst}
 use Prim.Native.Nat.{ℕ, zero, suc, _+_, _*_, _-_, _%_, _≤_}
 use native.Mathlib.Nat.{mod-eq-of-lt, add-mod-right, add-assoc, add-zero}
 use native.Mathlib.Omega.{arith}
-use borrow.Author.Tests.{le-ltb, ne-eqb}
 use lib.ListN.{length, getD}
-use Rattle.graph.specs.Rates.{listOf, placeIn, rateOf}
+use Rattle.graph.proofs.Rates.{in-cycle, rate-is, place-in-cycle}
 use Rattle.channel.specs.Side.{Side, Sound, rate, total, turn}
 use Rattle.numbers.proofs.Sums.{sum-zero, sum-suc, sum-ext, sum-split, sum-le}
 
@@ -19,14 +18,11 @@ total-bound s b h (suc m) = omega (arith, sum-suc (rate s) m, h m, total-bound s
 module _ (s : Side) (ok : Sound s) where
   -- past the prefix
   rate-cycle : (d : ℕ) → rate s (length (s .prefix) + d) ≡ getD (s .cycle) (d % length (s .cycle)) 0
-  unfolding rateOf listOf placeIn
   rate-cycle d =
-      let e : length (s .prefix) + d - length (s .prefix) ≡ d = omega arith in
-      rw (
-        le-ltb (length (s .prefix) + d) (length (s .prefix)) (omega arith),
-        ne-eqb (length (s .cycle)) 0 (λ z. omega arith),
-        e,
-      )
+      let m = length (s .prefix) + d in
+      let e : m - length (s .prefix) ≡ d = omega arith in
+      sym (rate-is (s .prefix) (s .cycle) m (s .cycle) (d % length (s .cycle)) (in-cycle (s .prefix) (s .cycle) m (omega arith))
+      (ap (λ x. x % length (s .cycle)) (sym e) ∙ place-in-cycle (length (s .prefix)) (length (s .cycle)) m (omega arith) (omega arith)))
 
   rate-again : (d : ℕ) → rate s (length (s .prefix) + d + length (s .cycle)) ≡ rate s (length (s .prefix) + d)
   rate-again d =

@@ -1,20 +1,24 @@
 -- `channels::jobs` meets its contract. Assumes nothing.
 use mathlib.Core.Path.{ap}
-use Prim.Native.Nat.{_+_, _/_}
+use Prim.Native.Nat.{_+_, _*_, _/_, _≤_}
 use native.Mathlib.Nat.{mul-le-mul, div-le-self}
 use native.Mathlib.Omega.{arith}
 use borrow.Author.Needs.{needs}
 use Rattle.channels.proofs.jobs.Statement.{statement}
 use Rattle.channels.proofs.jobs.Tie as tie
 
+-- the giver's prefix takes at most 16,000,000 ticks
+ticks : (c : tie.Start) → c .args .gplen * c .args .giver .period ≤ 16_000_000
+ticks c = mul-le-mul {n₁ = c .args .gplen} {n₂ = 16} {m₂ = 1_000_000} (c .pre .giver-prefix) (c .pre .giver-period)
+
 mul-end : tie.Need-mul-end
-mul-end c = omega (arith, mul-le-mul {n₁ = c .before .args .gplen} {n₂ = 16} {m₂ = 1_000_000} (c .before .pre .giver-prefix) (c .before .pre .giver-period))
+mul-end c = omega (arith, ticks (c .before))
 
 add-end : tie.Need-add-end
-add-end c = omega (arith, mul-le-mul {n₁ = c .before .before .args .gplen} {n₂ = 16} {m₂ = 1_000_000} (c .before .before .pre .giver-prefix) (c .before .before .pre .giver-period))
+add-end c = omega (arith, ticks (c .before .before))
 
 add-end-2 : tie.Need-add-end-2
-add-end-2 c = omega (arith, mul-le-mul {n₁ = c .before .before .before .args .gplen} {n₂ = 16} {m₂ = 1_000_000} (c .before .before .before .pre .giver-prefix) (c .before .before .before .pre .giver-period))
+add-end-2 c = omega (arith, ticks (c .before .before .before))
 
 left-requires : tie.Need-left-requires
 left-requires c κs = search needs
@@ -25,12 +29,12 @@ div-result c = search needs
 add-result : tie.Need-add-result
 add-result c =
     let a = c .before .before .before .before .args in
-    omega (arith, c .left .ensures, mul-le-mul {n₁ = c .before .before .before .before .args .gplen} {n₂ = 16} {m₂ = 1_000_000} (c .before .before .before .before .pre .giver-prefix) (c .before .before .before .before .pre .giver-period), div-le-self (c .left .result) (a .taker .period))
+    omega (arith, c .left .ensures, ticks (c .before .before .before .before), div-le-self (c .left .result) (a .taker .period))
 
 add-result-2 : tie.Need-add-result-2
 add-result-2 c =
     let a = c .before .before .before .before .args in
-    omega (arith, c .left .ensures, mul-le-mul {n₁ = c .before .before .before .before .args .gplen} {n₂ = 16} {m₂ = 1_000_000} (c .before .before .before .before .pre .giver-prefix) (c .before .before .before .before .pre .giver-period), div-le-self (c .left .result) (a .taker .period))
+    omega (arith, c .left .ensures, ticks (c .before .before .before .before), div-le-self (c .left .result) (a .taker .period))
 
 div-result-2 : tie.Need-div-result-2
 div-result-2 c = search needs
@@ -38,7 +42,7 @@ div-result-2 c = search needs
 add-result-3 : tie.Need-add-result-3
 add-result-3 c =
     let a = c .before .before .before .before .args in
-    omega (arith, c .left .ensures, mul-le-mul {n₁ = c .before .before .before .before .args .gplen} {n₂ = 16} {m₂ = 1_000_000} (c .before .before .before .before .pre .giver-prefix) (c .before .before .before .before .pre .giver-period), div-le-self (c .left .result) (a .taker .period), div-le-self (a .length) (a .taker .period))
+    omega (arith, c .left .ensures, ticks (c .before .before .before .before), div-le-self (c .left .result) (a .taker .period), div-le-self (a .length) (a .taker .period))
 
 returns : tie.Need-returns
 returns c =
