@@ -11,6 +11,9 @@ use Rattle.numbers.proofs.Sums.{cases}
 use Rattle.numbers.proofs.Least.{IsLeast, least-is}
 use Rattle.channel.specs.Judge.{IsLcm, lcm}
 
+pub lcm-swap : (a b L : ℕ) → IsLcm a b L → IsLcm b a L
+lcm-swap a b L l = record { positive = l .positive; left = l .right; right = l .left; at-most = λ m pos db da. l .at-most m pos da db }
+
 module _ (a b : ℕ) (ha : 0 < a) (hb : 0 < b) where
   abbrev divides : ℕ → Bool
   divides i = eqb (suc i * a % b) 0

@@ -13,13 +13,11 @@ use Rattle.channel.proofs.Totals.{turns}
 
 module _ (t g : Side) (okt : Sound t) (okg : Sound g) where
   -- from `first` on a job is past its own prefix, and released when the giver is past its own
-  past : (k : ℕ) → first t g ≤ k → end g (length (g .prefix)) ≤ release t k
+  pub past : (k : ℕ) → first t g ≤ k → end g (length (g .prefix)) ≤ release t k
   past k h =
-      omega (
-        arith,
-        lt-div-mul-add {a = end g (length (g .prefix)) - t .offset} {b = t .period} (omega arith),
-        mul-le-mul-right (t .period) h,
-      )
+      let over : ℕ = end g (length (g .prefix)) - t .offset in
+      let later : over / t .period + 1 ≤ k = omega arith in
+      omega (arith, lt-div-mul-add {a = over} {b = t .period} (omega arith), mul-le-mul-right (t .period) later)
 
   -- a turns of the taker's cycle that take as long as b of the giver's
   module _ (a b : ℕ) (same : a * span t ≡ b * span g) (k : ℕ) (h : first t g ≤ k) where
@@ -93,7 +91,7 @@ module _ (t g : Side) (okt : Sound t) (okg : Sound g) where
   pub jobs-few :
       (L : ℕ) → 0 < L → span g ∣ L → g .offset ≤ 1_000_000 → length (t .prefix) ≤ 16 → length (g .prefix) ≤ 16
       → L / t .period ≤ longest
-      → jobs L t g ≤ 2_179_682
+      → jobs L t g ≤ 2_179_666
   jobs-few L pos d go tl gl w =
       let long : L ≤ 65537 * t .period = omega (arith, lt-div-mul-add {a = L} {b = t .period} (omega arith), mul-le-mul-right (t .period) w) in
       let wide : g .period ≤ L = omega (arith, le-mul-of-pos-right (g .period) (okg .some-rate), le-of-dvd pos d) in

@@ -1,7 +1,7 @@
 -- What the first jobs of a side move. Assumes nothing.
 use mathlib.Core.Path.{_≡_, sym, ap, _∙_, subst}
-use Prim.Native.Nat.{ℕ, zero, suc, _+_, _*_, _-_, _%_, _≤_}
-use native.Mathlib.Nat.{mod-eq-of-lt, add-mod-right, add-assoc, add-zero}
+use Prim.Native.Nat.{ℕ, zero, suc, _+_, _*_, _-_, _/_, _%_, _≤_}
+use native.Mathlib.Nat.{mod-eq-of-lt, div-add-mod', add-mod-right, add-assoc, add-zero}
 use native.Mathlib.Omega.{arith}
 use lib.ListN.{length, getD}
 use Rattle.graph.proofs.Rates.{in-cycle, rate-is, place-in-cycle}
@@ -17,7 +17,7 @@ total-bound s b h (suc m) = omega (arith, sum-suc (rate s) m, h m, total-bound s
 
 module _ (s : Side) (ok : Sound s) where
   -- past the prefix
-  rate-cycle : (d : ℕ) → rate s (length (s .prefix) + d) ≡ getD (s .cycle) (d % length (s .cycle)) 0
+  pub rate-cycle : (d : ℕ) → rate s (length (s .prefix) + d) ≡ getD (s .cycle) (d % length (s .cycle)) 0
   rate-cycle d =
       let m = length (s .prefix) + d in
       let e : m - length (s .prefix) ≡ d = omega arith in
@@ -62,3 +62,13 @@ module _ (s : Side) (ok : Sound s) where
       ap (total s) (omega arith)
       ∙ one-turn (m + c * length (s .cycle)) (omega arith)
       ∙ omega (arith, turns m c h)
+
+  -- the total by the entries of prefix and one turn alone
+  pub total-folded :
+      (m : ℕ) → length (s .prefix) ≤ m
+      → total s m ≡ total s (length (s .prefix) + (m - length (s .prefix)) % length (s .cycle)) + (m - length (s .prefix)) / length (s .cycle) * turn s
+  total-folded m h =
+      let n : ℕ = length (s .cycle) in
+      let d : ℕ = m - length (s .prefix) in
+      let e : length (s .prefix) + d % n + d / n * n ≡ m = omega (arith, div-add-mod' d n) in
+      sym (ap (total s) e) ∙ turns (length (s .prefix) + d % n) (d / n) (omega arith)

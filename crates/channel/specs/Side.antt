@@ -1,7 +1,7 @@
 -- One side of a channel, and the jobs, rates and sums of that side. Each is said once and serves producer and consumer alike. Assumes nothing.
 use mathlib.Core.Bool.{cond}
 use mathlib.Core.List.{List}
-use Prim.Native.Nat.{ℕ, suc, _+_, _*_, _-_, _/_, _≤_, _<_}
+use Prim.Native.Nat.{ℕ, suc, _+_, _*_, _-_, _/_, max, _≤_, _<_}
 use lib.Dec.{leb}
 use lib.ListN.{length, getD}
 use Rattle.numbers.specs.Numbers.{sum}
@@ -54,9 +54,9 @@ ended s t = sum (λ m. cond (leb (end s m) t) 1 0) t
 abbrev pub Short : Side → Side → ℕ → ℕ → Type 0
 Short taker giver stock k = stock + total giver (ended giver (release taker k)) < total taker (suc k)
 
--- From this job of the taker on, both sides are past their prefixes.
+-- From this job of the taker on, both sides are past their prefixes: it has an entry of the cycle, and is released when the giver's first job behind the prefix has ended.
 abbrev pub first : Side → Side → ℕ
-first taker giver = length (taker .prefix) + (end giver (length (giver .prefix)) - taker .offset) / taker .period + 1
+first taker giver = max (length (taker .prefix)) ((end giver (length (giver .prefix)) - taker .offset) / taker .period + 1)
 
 -- The number of jobs of the taker whose tests decide all, where L is a common multiple of the spans: those up to `first`, and one L more.
 abbrev pub jobs : ℕ → Side → Side → ℕ

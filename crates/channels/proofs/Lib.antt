@@ -1,5 +1,7 @@
 pub mod Fits
 pub mod Multiples
-pub mod Running
-pub mod Deciding
+pub mod Tables
+pub mod Stretching
 pub mod Weighing
+pub mod Deciding
+pub mod Casing

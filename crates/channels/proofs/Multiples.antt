@@ -1,55 +1,57 @@
--- The search for the least common multiple among the multiples of one span. Assumes nothing.
-use mathlib.Core.Path.{_≡_, refl, sym, ap, _∙_}
-use Prim.Native.Nat.{ℕ, suc, _+_, _*_, _/_, _%_, _≤_, _<_, _∣_}
-use native.Mathlib.Nat.{mul-le-mul-right, div-mul-cancel, div-lt-iff-lt-mul, le-div-iff-mul-le, dvd-of-mod-eq-zero, mod-eq-zero-of-dvd, mod-lt, add-mod}
+-- The greatest common divisor by division, and the least common multiple by it. Assumes nothing.
+use mathlib.Core.Path.{_≡_, refl, sym, ap, _∙_, subst}
+use Prim.Native.Nat.{ℕ, _*_, _/_, _%_, _≤_, _<_}
+use native.Mathlib.Nat.{mod-lt, mul-pos, div-mul-cancel, div-eq-of-eq-mul-left, eq-of-mul-eq-mul-left}
 use native.Mathlib.Omega.{arith}
-use Rattle.numbers.proofs.Sums.{cases, extend}
+use Rattle.numbers.proofs.Sums.{cases}
 use Rattle.channel.specs.Judge.{lcm}
-use Rattle.channel.proofs.Least.{lcm-is, lcm-found, lcm-past}
-use Rattle.channels.specs.Answers.{Spans}
+use Rattle.channel.proofs.Least.{lcm-is}
+use Rattle.channel.proofs.Common.{Common, whole, further, product}
+use Rattle.channels.specs.Answers.{Divisor}
 
--- `ticks` is a multiple of a, `rest` what it leaves modulo b, and b divides no multiple before it
-pub record Tried (a b ticks rest : ℕ) : Type 0 where
-  pub n : ℕ
-  pub is : ticks ≡ suc n * a
-  pub leaves : rest ≡ ticks % b
-  pub none : (i : ℕ) → i < n → ¬ (b ∣ suc i * a)
+-- a divisor of x and y, in which they can meet, is one of a and b; `rest` is what x leaves modulo y
+pub record Reduced (a b x y rest : ℕ) : Type 0 where
+  pub some-x : 0 < x
+  pub some-y : 0 < y
+  pub most : y ≤ b
+  pub leaves : rest ≡ x % y
+  pub keeps : (h : ℕ) → Common x y h → Common a b h
 
-pub tried-one : (a b : ℕ) → Tried a b a (a % b)
-tried-one a b = record { n = 0; is = omega arith; leaves = refl; none = λ i h. absurd (omega arith) }
+pub reduced-none : (a b : ℕ) → 0 < a → 0 < b → Reduced a b a b (a % b)
+reduced-none a b pa pb = record { some-x = pa; some-y = pb; most = omega arith; leaves = refl; keeps = λ h c. c }
 
-module _ (a b least : ℕ) (ok : Spans a b least) (ticks rest : ℕ) (t : Tried a b ticks rest) where
-  pub sum-below : rest + a % b < b + b
-  sum-below = omega (arith, t .leaves, mod-lt ticks {m = b} (ok .some-b), mod-lt a {m = b} (ok .some-b))
+module _ (a b x y rest : ℕ) (r : Reduced a b x y rest) where
+  pub rest-less : rest < y
+  rest-less = omega (arith, r .leaves, mod-lt x {m = y} (r .some-y))
 
-  pub tried-more : ¬ (rest ≡ 0) → Tried a b (ticks + a) ((rest + a % b) % b)
-  tried-more h =
+  pub reduced-more : ¬ (rest ≡ 0) → Reduced a b y rest (y % rest)
+  reduced-more h =
       record {
-        n = suc (t .n);
-        is = omega (arith, t .is);
-        leaves = ap (λ x. (x + a % b) % b) (t .leaves) ∙ sym (add-mod ticks a b);
-        none =
-            extend (λ i. ¬ (b ∣ suc i * a)) (t .n) (t .none)
-            (λ d. h (t .leaves ∙ ap (λ x. x % b) (t .is) ∙ mod-eq-zero-of-dvd b d));
+        some-x = r .some-y;
+        some-y = omega arith;
+        most = omega (arith, rest-less, r .most);
+        leaves = refl;
+        keeps = λ d c. r .keeps d (further x y d (r .some-x) (subst (λ z. Common y z d) (r .leaves) c));
       }
 
-  pub found : rest ≡ 0 → ticks < 65537 * least → (ticks ≡ lcm a b) × (lcm a b / least ≤ 65536)
-  found z h =
-      let divides : b ∣ suc (t .n) * a = dvd-of-mod-eq-zero b (ap (λ x. x % b) (sym (t .is)) ∙ sym (t .leaves) ∙ z) in
-      let e : lcm a b ≡ ticks = lcm-found a b (ok .some-a) (ok .some-b) (t .n) divides (t .none) ∙ sym (t .is) in
-      (sym e, rw e (omega (arith, div-lt-iff-lt-mul {k = least} {x = ticks} {y = 65537} (ok .some-least) .1 h)))
+  pub reduced-all : 0 < a → 0 < b → rest ≡ 0 → Divisor a b y
+  reduced-all pa pb z =
+      record {
+        product = product a b (lcm a b) y pa pb (lcm-is a b pa pb) (r .keeps y (whole x y (r .some-x) (r .some-y) (sym (r .leaves) ∙ z)));
+        most = r .most;
+      }
 
-  pub past : 65537 * least ≤ ticks → 65536 < lcm a b / least
-  past h =
-      let l = lcm a b in
-      let far : ticks ≤ l =
-      cases (l / a) (t .n)
-      (λ k.
-      omega (
-        arith,
-        lcm-past a b (ok .some-a) (ok .some-b) (t .n) (t .none),
-        div-mul-cancel a (lcm-is a b (ok .some-a) (ok .some-b) .left),
-        mul-le-mul-right a k,
-      ))
-      (λ k. omega (arith, t .is, div-mul-cancel a (lcm-is a b (ok .some-a) (ok .some-b) .left), mul-le-mul-right a k)) in
-      le-div-iff-mul-le (ok .some-least) .1 (omega arith)
+module _ (a b r : ℕ) (pa : 0 < a) (pb : 0 < b) (d : Divisor a b r) where
+  pub some-divisor : 0 < r
+  some-divisor = cases 1 r (λ h. h) (λ h. let z : r ≡ 0 = omega arith in omega (arith, mul-pos pa pb, d .product, ap (λ x. lcm a b * x) z))
+
+  divides : a ≡ lcm a b / b * r
+  divides =
+      eq-of-mul-eq-mul-left b pb a (lcm a b / b * r)
+      (omega (arith, d .product, ap (λ x. x * r) (div-mul-cancel b (lcm-is a b pa pb .right))))
+
+  -- the product with one of the two divided is the least common multiple
+  pub multiple : a / r * b ≡ lcm a b
+  multiple =
+      let q : a / r ≡ lcm a b / b = div-eq-of-eq-mul-left some-divisor divides in
+      ap (λ x. x * b) q ∙ div-mul-cancel b (lcm-is a b pa pb .right)

@@ -1,7 +1,7 @@
 -- The tests of one channel, put together. Assumes nothing.
 use mathlib.Core.Path.{_≡_, sym, subst, _∙_}
 use mathlib.Core.Bool.{Bool, true, false}
-use Prim.Native.Nat.{ℕ, _*_, _-_, _/_, min, _≤_, _<_, _∣_}
+use Prim.Native.Nat.{ℕ, _*_, _-_, _/_, min, _≤_, _<_}
 use native.Mathlib.Nat.{mul-pos, mul-le-mul, mul-le-mul-left, le-min, min-le-left, min-le-right, div-lt-iff-lt-mul}
 use native.Mathlib.Omega.{arith}
 use borrow.Author.Tests.{eqb-true, eqb-false}
@@ -11,20 +11,19 @@ use lib.Seq.{length-take-le}
 use Rattle.graph.specs.declared.Task.{Task}
 use Rattle.graph.specs.Memory.{MemoryLink, MemoryRates, view-rates}
 use Rattle.channel.specs.declared.Verdict as verdict
-use Rattle.channel.specs.Side.{Side, turn, span, Short}
-use Rattle.channel.specs.Channel.{Channel, Balanced, Underflows}
+use Rattle.channel.specs.Side.{Side, turn, span}
+use Rattle.channel.specs.Channel.{Channel, Balanced}
 use Rattle.channel.specs.Judge.{IsLcm, lcm, TooLong, Means}
-use Rattle.channel.proofs.Least.{lcm-is}
+use Rattle.channel.proofs.Least.{lcm-is, lcm-swap}
 use Rattle.channel.proofs.Parts.{short-over, over-short}
 use Rattle.channels.specs.declared.Window as window
-use Rattle.channels.specs.declared.Search as search
 use Rattle.channels.specs.Sides.{side, joinedOf, Timed, Rated, Ready, Limited, Weighable}
-use Rattle.channels.specs.Answers.{Spans, Measured, Repeats, Decides}
+use Rattle.channels.specs.Answers.{Spans, Measured, Repeats, Lacking}
 
 pub span-most : (s : Side) → Limited s → span s ≤ 32_000_000
 span-most s ok = omega (arith, mul-le-mul {n₁ = s .period} {n₂ = 1_000_000} {m₂ = 32} (ok .period-most) (ok .cycle-most))
 
-span-some : (s : Side) → Limited s → 1 ≤ span s
+pub span-some : (s : Side) → Limited s → 1 ≤ span s
 span-some s ok = mul-pos (omega arith) (ok .some-rate)
 
 -- a length in periods is at most as many in the smaller of two
@@ -78,48 +77,37 @@ module _ (ch : Channel) (ok : Weighable ch) where
       not-long h = omega (arith, is .1)
 
       repeats : (t g : Side) → Limited t → Limited g → (stock : ℕ) → stock ≤ 1_000_000 → Balanced t g
-          → span t ∣ lcm (span (ch .producer)) (span (ch .consumer)) → span g ∣ lcm (span (ch .producer)) (span (ch .consumer)) → least ≤ t .period
+          → IsLcm (span t) (span g) (lcm (span (ch .producer)) (span (ch .consumer))) → least ≤ t .period
           → Repeats t g stock ticks
-      repeats t g tok gok stock s bal dt dg h =
+      repeats t g tok gok stock s bal l h =
           rw (is .0)
           record {
             taker = tok;
             giver = gok;
             stock-most = s;
             balanced = bal;
-            some = L-is .positive;
-            of-taker = dt;
-            of-giver = dg;
+            least = l;
             length-most = by-period (lcm (span (ch .producer)) (span (ch .consumer))) (t .period) least some-least h (is .1);
           }
 
       module _ (bal : Balanced (ch .producer) (ch .consumer)) where
         pub under-asks : Repeats (ch .consumer) (ch .producer) (ch .initial) ticks
         under-asks =
-            repeats (ch .consumer) (ch .producer) (ok .consumer) (ok .producer) (ch .initial) (ok .initial-most) (sym bal) (L-is .right) (L-is .left) (min-le-right (ch .producer .period) (ch .consumer .period))
+            repeats (ch .consumer) (ch .producer) (ok .consumer) (ok .producer) (ch .initial) (ok .initial-most) (sym bal) (lcm-swap _ _ _ L-is) (min-le-right (ch .producer .period) (ch .consumer .period))
 
         pub over-asks : Repeats (ch .producer) (ch .consumer) (ch .size - ch .initial) ticks
         over-asks =
-            repeats (ch .producer) (ch .consumer) (ok .producer) (ok .consumer) (ch .size - ch .initial) (omega (arith, ok .size-most)) bal (L-is .left) (L-is .right) (min-le-left (ch .producer .period) (ch .consumer .period))
+            repeats (ch .producer) (ch .consumer) (ok .producer) (ok .consumer) (ch .size - ch .initial) (omega (arith, ok .size-most)) bal L-is (min-le-left (ch .producer .period) (ch .consumer .period))
 
-        module _ (fits : ch .initial ≤ ch .size) (u : search.Search) (du : Decides (ch .consumer) (ch .producer) (ch .initial) u) where
-          pub underflows : (k : ℕ) → u ≡ search.the-variants.Short k → Means ch (verdict.the-variants.Underflow k)
-          underflows k eu = (fits, bal, not-long, subst (λ v. Decides (ch .consumer) (ch .producer) (ch .initial) v) eu du)
-
-          module _ (eu : u ≡ search.the-variants.Nothing) where
-            never : (k : ℕ) → ¬ Underflows ch k
-            never = subst (λ v. Decides (ch .consumer) (ch .producer) (ch .initial) v) eu du
-
-            module _ (o : search.Search) (ov : Decides (ch .producer) (ch .consumer) (ch .size - ch .initial) o) where
-              pub overflows : (j : ℕ) → o ≡ search.the-variants.Short j → Means ch (verdict.the-variants.Overflow j)
-              overflows j eo =
-                  let f = subst (λ v. Decides (ch .producer) (ch .consumer) (ch .size - ch .initial) v) eo ov in
-                  (fits, bal, not-long, never, (short-over ch j (f .0), λ i l v. f .1 i l (over-short ch fits i v)))
-
-              pub fine : o ≡ search.the-variants.Nothing → Means ch verdict.the-variants.Fine
-              fine eo =
-                  let f = subst (λ v. Decides (ch .producer) (ch .consumer) (ch .size - ch .initial) v) eo ov in
-                  (fits, bal, not-long, never, λ j v. f j (over-short ch fits j v))
+        -- what the two searches say is the verdict
+        pub means : ch .initial ≤ ch .size → (v : verdict.Verdict) → Lacking (ch .producer) (ch .consumer) (ch .initial) (ch .size - ch .initial) v → Means ch v
+        means fits (verdict.the-variants.Underflow k) f = (fits, bal, not-long, f)
+        means fits (verdict.the-variants.Overflow j) f =
+            (fits, bal, not-long, f .0, (short-over ch j (f .1 .0), λ i l v. f .1 .1 i l (over-short ch fits i v)))
+        means fits verdict.the-variants.Fine f = (fits, bal, not-long, f .0, λ j v. f .1 j (over-short ch fits j v))
+        means fits verdict.the-variants.InitialAboveSize f = absurd f
+        means fits verdict.the-variants.Unbalanced f = absurd f
+        means fits verdict.the-variants.WindowTooLong f = absurd f
 
 -- ---- a channel in memory
 

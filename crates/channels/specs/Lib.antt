@@ -1,2 +1,3 @@
 pub mod Sides
+pub mod Tables
 pub mod Answers

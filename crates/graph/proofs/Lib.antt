@@ -1,4 +1,3 @@
 pub mod Laid
-pub mod Places
 pub mod Rates
 pub mod Stores

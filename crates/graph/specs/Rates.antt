@@ -20,7 +20,3 @@ placeOf prefix cycle m = placeIn (length prefix) (length cycle) m
 -- job m's rate: the entry at that place of that list, 0 where the cycle is empty
 unfoldable pub rateOf : List ℕ → List ℕ → ℕ → ℕ
 rateOf prefix cycle m = getD (listOf prefix cycle m) (placeOf prefix cycle m) 0
-
--- the place that follows place i of a list of n entries: the next, or the first of the cycle
-abbrev pub nextPlace : ℕ → ℕ → ℕ
-nextPlace n i = cond (ltb (i + 1) n) (i + 1) 0

@@ -2,7 +2,7 @@
 ghost use mathlib.Core.Path.{_≡_};
 ghost use Prim.Native.Nat.{_<_};
 ghost use Rattle.graph.specs.Memory.{emptyMemory};
-ghost use Rattle.graph.specs.Rates.{listOf, placeIn, rateOf, nextPlace};
+ghost use Rattle.graph.specs.Rates.{listOf, placeIn, rateOf};
 
 // A periodic task. Times are ticks; priority 1 is the highest.
 pub struct Task {
@@ -140,27 +140,22 @@ pub fn list_at<'a>(prefix: &'a [u16], cycle: &'a [u16], m: u64) -> &'a [u16]
     }
 }
 
-// The place of that rate in its list, by the lengths of prefix and cycle; 0 in an empty cycle.
+// The place of that rate in its list, by the lengths of prefix and cycle; 0 in an empty cycle. The first turn needs no division.
 pub fn place_at(plen: usize, clen: usize, m: u64) -> usize
     ensures { λ r. ⌜ r ≡ placeIn plen clen m ⌝ }
 {
     if m < plen as u64 {
         return m as usize;
     }
+    let past = m - plen as u64;
+    if past < clen as u64 {
+        return past as usize;
+    }
     if 0 < clen {
-        ((m - plen as u64) % clen as u64) as usize
+        (past % clen as u64) as usize
     } else {
         0
     }
-}
-
-// The place of the next job's rate, from the length of this job's list and the place there: no division.
-pub fn next_place(len: usize, place: usize) -> usize
-    requires { ⌜ place < len ⌝ }
-    ensures { λ r. ⌜ r ≡ nextPlace len place ⌝ }
-{
-    let next = place + 1;
-    if next < len { next } else { 0 }
 }
 
 // The rate of job m; 0 past the prefix of a side whose cycle is empty.

@@ -1,6 +1,6 @@
 -- `channels::jobs` meets its contract. Assumes nothing.
-use mathlib.Core.Path.{ap}
-use Prim.Native.Nat.{_+_, _*_, _/_, _≤_}
+use mathlib.Core.Path.{ap, _∙_}
+use Prim.Native.Nat.{_+_, _*_, _/_, max, _≤_}
 use native.Mathlib.Nat.{mul-le-mul, div-le-self}
 use native.Mathlib.Omega.{arith}
 use borrow.Author.Needs.{needs}
@@ -23,31 +23,35 @@ add-end-2 c = omega (arith, ticks (c .before .before .before))
 left-requires : tie.Need-left-requires
 left-requires c κs = search needs
 
+-- how long after the taker's start the giver is past its prefix, in the taker's periods
+few : (c : tie.After-left) → c .left .result / c .before .before .before .before .args .taker .period ≤ 18_000_000
+few c =
+    let s = c .before .before .before .before in
+    omega (arith, c .left .ensures, ticks s, s .pre .giver-offset, s .pre .giver-window, div-le-self (c .left .result) (s .args .taker .period))
+
+div-larger : tie.Need-div-larger
+div-larger c = search needs
+
+add-larger : tie.Need-add-larger
+add-larger c = omega (arith, few c)
+
+larger-requires : tie.Need-larger-requires
+larger-requires c κs = search needs
+
 div-result : tie.Need-div-result
 div-result c = search needs
 
 add-result : tie.Need-add-result
 add-result c =
-    let a = c .before .before .before .before .args in
-    omega (arith, c .left .ensures, ticks (c .before .before .before .before), div-le-self (c .left .result) (a .taker .period))
-
-add-result-2 : tie.Need-add-result-2
-add-result-2 c =
-    let a = c .before .before .before .before .args in
-    omega (arith, c .left .ensures, ticks (c .before .before .before .before), div-le-self (c .left .result) (a .taker .period))
-
-div-result-2 : tie.Need-div-result-2
-div-result-2 c = search needs
-
-add-result-3 : tie.Need-add-result-3
-add-result-3 c =
-    let a = c .before .before .before .before .args in
-    omega (arith, c .left .ensures, ticks (c .before .before .before .before), div-le-self (c .left .result) (a .taker .period), div-le-self (a .length) (a .taker .period))
+    let l = c .before in
+    let s = l .before .before .before .before in
+    omega (arith, c .larger .ensures, few l, s .pre .taker-prefix, s .pre .length-most, div-le-self (s .args .length) (s .args .taker .period))
 
 returns : tie.Need-returns
 returns c =
-    let a = c .before .before .before .before .args in
-    ap (λ x. a .tplen + x / a .taker .period + 1 + a .length / a .taker .period) (c .left .ensures)
+    let l = c .before in
+    let a = l .before .before .before .before .args in
+    ap (λ x. x + a .length / a .taker .period) (c .larger .ensures ∙ ap (λ x. max (a .tplen) (x / a .taker .period + 1)) (l .left .ensures))
 
 pub jobs-spec : {M : Type 1} → statement M
 jobs-spec =
@@ -57,9 +61,9 @@ jobs-spec =
     add-end
     add-end-2
     left-requires
+    div-larger
+    add-larger
+    larger-requires
     div-result
     add-result
-    add-result-2
-    div-result-2
-    add-result-3
     returns)

@@ -1,75 +1,42 @@
 -- `channels::measure` meets its contract. Assumes nothing.
-use Prim.Native.Nat.{_-_}
+use mathlib.Core.Path.{_≡_, subst}
+use Prim.Native.Nat.{ℕ, _*_, _/_, _≤_, _<_}
+use native.Mathlib.Nat.{mul-le-mul, div-le-self}
 use native.Mathlib.Omega.{arith}
 use borrow.Author.Needs.{needs}
-use Rattle.channels.proofs.Multiples.{Tried, tried-one, sum-below, tried-more, found, past}
+use Rattle.channel.specs.Judge.{lcm}
+use Rattle.channels.proofs.Multiples.{some-divisor, multiple}
 use Rattle.channels.proofs.measure.Statement.{statement}
 use Rattle.channels.proofs.measure.Tie as tie
 
-abbrev Inv-loop : tie.InvT-loop
-Inv-loop a b least limit step ticks₀ rest₀ ticks rest = Tried a b ticks rest
+is : (c : tie.After-common) → let a = c .before .args in a .a / c .common .result * a .b ≡ lcm (a .a) (a .b)
+is c =
+    let s = c .before in
+    multiple (s .args .a) (s .args .b) (c .common .result) (s .pre .some-a) (s .pre .some-b) (c .common .ensures)
 
-abbrev μ-loop : tie.MeasureT-loop
-μ-loop a b least limit step ticks₀ rest₀ ticks rest = limit - ticks
+common-requires : tie.Need-common-requires
+common-requires c κs = search needs
 
-mul-limit : tie.Need-mul-limit Inv-loop μ-loop
-mul-limit c = search needs
+div-ticks : tie.Need-div-ticks
+div-ticks c =
+    let s = c .before in
+    omega (arith, some-divisor (s .args .a) (s .args .b) (c .common .result) (s .pre .some-a) (s .pre .some-b) (c .common .ensures))
 
-rem-step : tie.Need-rem-step Inv-loop μ-loop
-rem-step c = search needs
+mul-ticks : tie.Need-mul-ticks
+mul-ticks c =
+    let s = c .before in
+    let q : ℕ = s .args .a / c .common .result in
+    let few : q ≤ 32_000_000 = omega (arith, div-le-self (s .args .a) (c .common .result), s .pre .a-most) in
+    omega (arith, mul-le-mul {n₁ = q} {m₁ = s .args .b} {n₂ = 32_000_000} {m₂ = 32_000_000} few (s .pre .b-most))
 
-loop-holds : tie.Need-loop-holds Inv-loop μ-loop
-loop-holds c = tried-one (c .args .a) (c .args .b)
+div-if1 : tie.Need-div-if1
+div-if1 c = search needs
 
-returns : tie.Need-returns Inv-loop μ-loop
-returns c =
-    let l = c .before .before .loop in
-    let s = c .before .before .before in
-    found (s .args .a) (s .args .b) (s .args .least) (s .pre) (l .ticks) (l .rest) (l .inv) (c .if1 .taken) (omega arith)
+returns : tie.Need-returns
+returns c = subst (λ x. 65536 < x / c .before .before .args .least) (is (c .before)) (c .if1 .taken)
 
-add-ticks : tie.Need-add-ticks Inv-loop μ-loop
-add-ticks c = search needs
-
-add-around : tie.Need-add-around Inv-loop μ-loop
-add-around c =
-    let l = c .before .before .loop in
-    let s = c .before .before .before in
-    omega (arith, sum-below (s .args .a) (s .args .b) (s .args .least) (s .pre) (l .ticks) (l .rest) (l .inv))
-
-around-requires : tie.Need-around-requires Inv-loop μ-loop
-around-requires c κs =
-    let l = c .before .before .loop in
-    let s = c .before .before .before in
-    sum-below (s .args .a) (s .args .b) (s .args .least) (s .pre) (l .ticks) (l .rest) (l .inv)
-
-loop-less : tie.Need-loop-less Inv-loop μ-loop
-loop-less c = search needs
-
-loop-again : tie.Need-loop-again Inv-loop μ-loop
-loop-again c =
-    let l = c .before .before .before .loop in
-    let s = c .before .before .before .before in
-    rw (c .around .ensures) (tried-more (s .args .a) (s .args .b) (s .args .least) (s .pre) (l .ticks) (l .rest) (l .inv) (c .before .if1 .left))
-
-returns-2 : tie.Need-returns-2 Inv-loop μ-loop
-returns-2 c =
-    let l = c .before .loop in
-    let s = c .before .before in
-    past (s .args .a) (s .args .b) (s .args .least) (s .pre) (l .ticks) (l .rest) (l .inv) (omega arith)
+returns-2 : tie.Need-returns-2
+returns-2 c = (is (c .before), subst (λ x. x / c .before .before .args .least ≤ 65536) (is (c .before)) (omega arith))
 
 pub measure-spec : {M : Type 1} → statement M
-measure-spec =
-    tie.close
-    (tie.spec
-    Inv-loop
-    μ-loop
-    mul-limit
-    rem-step
-    loop-holds
-    returns
-    add-ticks
-    add-around
-    around-requires
-    loop-less
-    loop-again
-    returns-2)
+measure-spec = tie.close (tie.spec common-requires div-ticks mul-ticks div-if1 returns returns-2)

@@ -4,7 +4,7 @@ use Rattle.channel.specs.Side.{span}
 use Rattle.channel.specs.Channel.{Channel, Balanced}
 use Rattle.channels.specs.Sides.{sideOf, joinedAt, Weighable}
 use Rattle.channels.specs.Answers.{Measured}
-use Rattle.channels.proofs.Weighing.{span-most, spans, least-of, in-balance, off-balance, too-long, under-asks, over-asks, underflows, overflows, fine}
+use Rattle.channels.proofs.Weighing.{span-most, spans, least-of, in-balance, off-balance, too-long, under-asks, over-asks, means}
 use borrow.Author.Needs.{needs}
 use Rattle.channels.proofs.weigh.Statement.{statement}
 use Rattle.channels.proofs.weigh.Tie as tie
@@ -58,60 +58,23 @@ returns-2 c =
     let e = m .before .before .before .before in
     (e .if1 .left, balance (m .before .before), too-long (the e) (ok e) (m .measure .result) (measured m) (c .enum-told .given .1))
 
-decide-requires : tie.Need-decide-requires
-decide-requires c κs =
+shortages-requires : tie.Need-shortages-requires
+shortages-requires c κs =
     let m = c .before .before .before in
-    let e = m .before .before .before .before in
-    under-asks (the e) (ok e) (m .measure .result) (measured m) (c .before .window .given .0 .0) (c .before .window .given .1) (balance (m .before .before))
-
-enum-known-under : tie.Need-enum-known-under
-enum-known-under c = search needs
+    let e = m .before .before .before .before in (
+      over-asks (the e) (ok e) (m .measure .result) (measured m) (c .before .window .given .0 .0) (c .before .window .given .1) (balance (m .before .before)),
+      under-asks (the e) (ok e) (m .measure .result) (measured m) (c .before .window .given .0 .0) (c .before .window .given .1) (balance (m .before .before)),
+    )
 
 returns-3 : tie.Need-returns-3
 returns-3 c =
-    let d = c .before .before .before in
-    let l = d .before .before in
+    let l = c .before .before in
     let m = l .before .before in
     let e = m .before .before .before .before in
-    underflows (the e) (ok e) (m .measure .result) (measured m) (l .window .given .0 .0) (l .window .given .1) (balance (m .before .before)) (e .if1 .left) (d .decide .result) (d .decide .ensures) (c .before .under .given .0 .0) (c .before .under .given .1)
-
-enum-told-2 : tie.Need-enum-told-2
-enum-told-2 c = search needs
-
-decide-requires-2 : tie.Need-decide-requires-2
-decide-requires-2 c κs =
-    let d = c .before .before in
-    let l = d .before .before in
-    let m = l .before .before in
-    let e = m .before .before .before .before in
-    over-asks (the e) (ok e) (m .measure .result) (measured m) (l .window .given .0 .0) (l .window .given .1) (balance (m .before .before))
-
-enum-known-over : tie.Need-enum-known-over
-enum-known-over c = search needs
+    means (the e) (ok e) (m .measure .result) (measured m) (l .window .given .0 .0) (l .window .given .1) (balance (m .before .before)) (e .if1 .left) (c .shortages .result) (c .shortages .ensures)
 
 returns-4 : tie.Need-returns-4
 returns-4 c =
-    let x = c .before .before .before in
-    let d = x .before .before .before in
-    let l = d .before .before in
-    let m = l .before .before in
-    let e = m .before .before .before .before in
-    overflows (the e) (ok e) (m .measure .result) (measured m) (l .window .given .0 .0) (l .window .given .1) (balance (m .before .before)) (e .if1 .left) (d .decide .result) (d .decide .ensures) (x .before .enum-told2 .given .1) (x .decide2 .result) (x .decide2 .ensures) (c .before .over .given .0 .0) (c .before .over .given .1)
-
-enum-told-3 : tie.Need-enum-told-3
-enum-told-3 c = search needs
-
-returns-5 : tie.Need-returns-5
-returns-5 c =
-    let x = c .before .before in
-    let d = x .before .before .before in
-    let l = d .before .before in
-    let m = l .before .before in
-    let e = m .before .before .before .before in
-    fine (the e) (ok e) (m .measure .result) (measured m) (l .window .given .0 .0) (l .window .given .1) (balance (m .before .before)) (e .if1 .left) (d .decide .result) (d .decide .ensures) (x .before .enum-told2 .given .1) (x .decide2 .result) (x .decide2 .ensures) (c .enum-told3 .given .1)
-
-returns-6 : tie.Need-returns-6
-returns-6 c =
     let e = c .before .before in
     (e .if1 .left, off-balance (the e) (ok e) (c .before .balanced .result) (c .before .balanced .ensures) (c .if2 .left))
 
@@ -128,13 +91,6 @@ weigh-spec =
     enum-known-window
     enum-told
     returns-2
-    decide-requires
-    enum-known-under
+    shortages-requires
     returns-3
-    enum-told-2
-    decide-requires-2
-    enum-known-over
-    returns-4
-    enum-told-3
-    returns-5
-    returns-6)
+    returns-4)
