@@ -2,15 +2,24 @@
 
 use compare::record;
 use compare::rng::Rng;
-use compare::sketch::{Link, Lists, Relation, Shape, Sketch, Task};
+use compare::sketch::{self, Link, Lists, Relation, Shape, Sketch, Task};
 
 const MILLION: u64 = 1_000_000;
 
-/// A file, and its size in the unit of its case.
-pub type Sized = (String, Vec<u8>);
+/// A file, its size in the unit of its case, and the number that it must get.
+#[derive(Clone)]
+pub struct Sample {
+    pub size: String,
+    pub file: Vec<u8>,
+    pub number: u32,
+}
 
-fn sized(size: impl ToString, sketch: &Sketch) -> Sized {
-    (size.to_string(), record::file(&sketch.records()))
+fn sized(size: impl ToString, sketch: &Sketch) -> Sample {
+    Sample {
+        size: size.to_string(),
+        file: record::file(&sketch.records()),
+        number: 0,
+    }
 }
 
 fn task(period: u64, offset: u64, deadline: u64, worst: u64, priority: usize) -> Task {
@@ -25,7 +34,7 @@ fn task(period: u64, offset: u64, deadline: u64, worst: u64, priority: usize) ->
 
 /// All tasks, channels and relations there can be, with so many entries in each list that the
 /// rate records are as many as said. 6,144 make the longest file, of 39,104 bytes.
-pub fn long() -> Vec<Sized> {
+pub fn long() -> Vec<Sample> {
     let sizes = [768, 1536, 3072, 6144];
     sizes.map(|size| sized(size, &full(size / 128))).to_vec()
 }
@@ -55,7 +64,7 @@ fn full(rates: usize) -> Sketch {
 }
 
 /// Accepted graphs with periods from a thousand ticks up, half loaded; the third is typical.
-pub fn typical() -> Vec<Sized> {
+pub fn typical() -> Vec<Sample> {
     let sizes = [(6, 10, 5), (12, 20, 10), (24, 40, 20), (32, 64, 64)];
     let graph = |(tasks, links, relations)| {
         let size = format!("{tasks}/{links}/{relations}");
@@ -84,13 +93,13 @@ fn accepted(tasks: usize, links: usize, relations: usize) -> Sketch {
 }
 
 /// 32 tasks whose response times are all close to the deadline, which is as said.
-pub fn response() -> Vec<Sized> {
+pub fn response() -> Vec<Sample> {
     let sizes = [125_000, 250_000, 500_000, 1_000_000];
     sizes.map(|size| sized(size, &slow(32, size))).to_vec()
 }
 
 /// The same with a deadline of 250,000 and so many tasks.
-pub fn response_tasks() -> Vec<Sized> {
+pub fn response_tasks() -> Vec<Sample> {
     let sizes = [4, 8, 16, 32];
     let graph = |size| sized(size, &slow(size, 250_000));
     sizes.map(graph).to_vec()
@@ -108,16 +117,82 @@ fn slow(tasks: usize, deadline: u64) -> Sketch {
     }
 }
 
-/// One channel with a window of so many jobs, a start as late as in proportion it can be, and
-/// full prefixes; 65,536 is the longest window.
-pub fn channel() -> Vec<Sized> {
-    let sizes = [8192, 16_384, 32_768, 65_536];
-    sizes.map(|size| sized(size, &far(size))).to_vec()
+/// 64 channels with a window of so many jobs; 65,536 is the longest.
+pub fn windows() -> Vec<Sample> {
+    let sizes = [64, 512, 4096, 65_536];
+    sizes.map(|size| sized(size, &ratio(size))).to_vec()
 }
 
-/// The producer is as slow as the window allows and starts last; the consumer runs every second
-/// tick and takes a token in every 32nd job.
-fn far(window: u64) -> Sketch {
+/// The widest windows: accepted, and with a token or a place too few in the last channel.
+pub fn worst() -> Vec<Sample> {
+    let graphs = [
+        ("2 and 131,072", ratio(65_536)),
+        ("65,535 and 65,536", still()),
+        ("65,534 and 65,535", near()),
+        ("32 x 32 entries", cycles()),
+    ];
+    let both = |(name, sketch): (&str, Sketch)| {
+        let refused = Sample {
+            size: format!("{name}, refused"),
+            ..refused(sketch.clone())
+        };
+        [sized(name, &sketch), refused]
+    };
+    graphs.into_iter().flat_map(both).collect()
+}
+
+/// Graph A of the specification, and the longest file.
+pub fn whole() -> Vec<Sample> {
+    let a = Sample {
+        size: "A".into(),
+        file: include_bytes!("../../samples/A.graph").to_vec(),
+        number: 0,
+    };
+    vec![a, sized("longest", &full(48))]
+}
+
+/// The last channel with one token less at the start, or with one place less if it moves nothing.
+fn refused(mut sketch: Sketch) -> Sample {
+    let last = sketch.links.last_mut().expect("a channel");
+    let number = match last.initial {
+        0 => {
+            last.sides[1].prefix = [[0; 15].as_slice(), &[1]].concat();
+            16
+        }
+        _ => {
+            last.initial -= 1;
+            last.size -= 1;
+            16
+        }
+    };
+    Sample {
+        number,
+        ..sized("", &sketch)
+    }
+}
+
+/// 64 channels alike from the first task to the second, each with just what it needs.
+fn alike(tasks: [Task; 2], sides: [Lists; 2]) -> Sketch {
+    let link = Link {
+        producer: 0,
+        consumer: 1,
+        initial: 0,
+        size: 0,
+        sides,
+    };
+    let mut sketch = Sketch {
+        tasks: tasks.to_vec(),
+        links: vec![link],
+        relations: vec![],
+    };
+    sketch.fit(0, 0);
+    sketch.links = vec![sketch.links[0].clone(); 64];
+    sketch
+}
+
+/// The producer is as slow as the window allows and starts last, in proportion; the consumer runs
+/// every second tick and takes a token in every 32nd job. Prefixes are full.
+fn ratio(window: u64) -> Sketch {
     let slow = 2 * window;
     let start = MILLION * window / 65_536;
     let given = (window / 32) as u16;
@@ -131,18 +206,38 @@ fn far(window: u64) -> Sketch {
         prefix: vec![0; 16],
         cycle,
     };
-    let link = Link {
-        producer: 0,
-        consumer: 1,
-        initial: 0,
-        size: 0,
-        sides: [production, consumption],
+    let tasks = [task(slow, start, slow, 1, 2), task(2, 0, 2, 1, 1)];
+    alike(tasks, [production, consumption])
+}
+
+/// Periods that differ by a tick, in channels that move nothing: only so are they in balance.
+fn still() -> Sketch {
+    let lists = || Lists {
+        prefix: vec![0; 16],
+        cycle: vec![0],
     };
-    let mut sketch = Sketch {
-        tasks: vec![task(slow, start, slow, 1, 2), task(2, 0, 2, 1, 1)],
-        links: vec![link],
-        relations: vec![],
+    let tasks = [65_535, 65_536].map(|period| task(period, 0, period, 1, period as usize - 65_534));
+    alike(tasks, [lists(), lists()])
+}
+
+/// Periods that differ by a tick, with as many tokens as a job can move: the fill drifts through
+/// the whole window.
+fn near() -> Sketch {
+    let lists = |tokens| Lists {
+        prefix: vec![],
+        cycle: vec![tokens],
     };
-    sketch.fit(0, 100_000);
-    sketch
+    let tasks = [65_534, 65_535].map(|period| task(period, 0, period, 1, period as usize - 65_533));
+    alike(tasks, [lists(65_534), lists(65_535)])
+}
+
+/// Full lists of uneven entries, and a window of 65,536 jobs.
+fn cycles() -> Sketch {
+    let tasks = [2047, 2048].map(|period| task(period, 0, period, 1, period as usize - 2046));
+    let mut rng = Rng::new(3);
+    let mut link = sketch::link(&mut rng, &tasks, 0, 1, [(16, 32), (16, 32)]);
+    while link.sides[0].cycle.iter().all(|&tokens| tokens == 0) {
+        link = sketch::link(&mut rng, &tasks, 0, 1, [(16, 32), (16, 32)]);
+    }
+    alike(tasks, link.sides)
 }

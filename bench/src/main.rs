@@ -1,13 +1,14 @@
 //! Measures the proved checker against its twin in plain Rust, in one run: bench [NAME...].
+//! Where channels are measured, a further column has plain Rust that walks every job.
 //!
-//! Both are called in turn on the same file; the time of each is the least of several rounds,
+//! All are called in turn on the same file; the time of each is the least of several rounds,
 //! per call, as the processor counts it for this thread. Buffers are made once and not cleared
 //! between calls.
 
 mod cases;
 mod clock;
 
-use cases::Sized;
+use cases::Sample;
 use compare::verified::{self, Reply};
 use std::hint::black_box;
 
@@ -35,25 +36,27 @@ struct Case {
     name: &'static str,
     unit: &'static str,
     goal: &'static str,
-    files: fn() -> Vec<Sized>,
+    samples: fn() -> Vec<Sample>,
     verified: Call,
-    plain: Call,
+    /// The twin, and where channels are measured plain Rust that walks every job.
+    plain: &'static [Call],
 }
 
-const READ: (Call, Call) = (
+const READ: (Call, &[Call]) = (
     |file, _| verified::read(file),
-    |file, _| told(black_box(twin::read(file)).0),
+    &[|file, _| told(black_box(twin::read(file)).0)],
 );
-const REWRITE: (Call, Call) = (
+const REWRITE: (Call, &[Call]) = (
     |file, to| verified::rewrite(file, &mut to.out),
-    |file, to| told(twin::write(&twin::read(file).1, &mut to.out)),
+    &[|file, to| told(twin::write(&twin::read(file).1, &mut to.out))],
 );
-const CHECK: (Call, Call) = (
-    |file, to| verified::check(file, &mut to.report),
-    |file, to| told(twin::check_file(file, &mut to.report)),
-);
+const CHECK: Call = |file, to| verified::check(file, &mut to.report);
+const TWIN: Call = |file, to| told(twin::check_file(file, &mut to.report));
+const BY_JOBS: Call = |file, to| told(twin::check_file_by_jobs(file, &mut to.report));
+const TASKS: (Call, &[Call]) = (CHECK, &[TWIN]);
+const CHANNELS: (Call, &[Call]) = (CHECK, &[TWIN, BY_JOBS]);
 
-const CASES: [Case; 6] = [
+const CASES: [Case; 8] = [
     case("read", "rate records", "at most 5", cases::long, READ),
     case("rewrite", "rate records", "none", cases::long, REWRITE),
     case(
@@ -61,28 +64,42 @@ const CASES: [Case; 6] = [
         "tasks/channels/relations",
         "at most 1.5 at 24/40/20",
         cases::typical,
-        CHECK,
+        CHANNELS,
     ),
     case(
         "response",
         "deadline, 32 tasks",
         "at most 1.25",
         cases::response,
-        CHECK,
+        TASKS,
     ),
     case(
         "tasks",
         "tasks, deadline 250,000",
         "at most 1.25",
         cases::response_tasks,
-        CHECK,
+        TASKS,
     ),
     case(
-        "channel",
-        "jobs in the window",
-        "at most 1.25",
-        cases::channel,
-        CHECK,
+        "window",
+        "jobs in the window of each of 64 channels",
+        "flat, at most 2",
+        cases::windows,
+        CHANNELS,
+    ),
+    case(
+        "worst",
+        "64 channels, accepted and refused in the last",
+        "1,000 us (refused 1,500), at most 2",
+        cases::worst,
+        CHANNELS,
+    ),
+    case(
+        "whole",
+        "graph A, and the longest file",
+        "no slower than every job",
+        cases::whole,
+        CHANNELS,
     ),
 ];
 
@@ -90,14 +107,14 @@ const fn case(
     name: &'static str,
     unit: &'static str,
     goal: &'static str,
-    files: fn() -> Vec<Sized>,
-    (verified, plain): (Call, Call),
+    samples: fn() -> Vec<Sample>,
+    (verified, plain): (Call, &'static [Call]),
 ) -> Case {
     Case {
         name,
         unit,
         goal,
-        files,
+        samples,
         verified,
         plain,
     }
@@ -118,45 +135,61 @@ fn main() {
 
 fn measure(case: &Case) {
     println!("\n{} by {} (goal: {})", case.name, case.unit, case.goal);
+    let every = if case.plain.len() > 1 {
+        "every job us"
+    } else {
+        ""
+    };
     println!(
-        "{:>12} {:>8} {:>12} {:>12} {:>6}",
-        "size", "bytes", "verified us", "plain us", "ratio"
+        "{:>24} {:>8} {:>16} {:>12} {:>12} {:>6} {every:>14}",
+        "size", "bytes", "reply", "verified us", "twin us", "ratio"
     );
     let mut buffers = Buffers {
         report: [0; 32],
         out: vec![0; 40_000],
     };
-    for (size, file) in (case.files)() {
-        agree(case, &file, &mut buffers);
-        let (verified, plain) = times(case, &file, &mut buffers);
-        let ratio = verified / plain;
-        println!(
-            "{size:>12} {:>8} {verified:>12.1} {plain:>12.1} {ratio:>6.2}",
-            file.len()
+    for sample in (case.samples)() {
+        let reply = agree(case, &sample, &mut buffers);
+        let least = times(case, &sample.file, &mut buffers);
+        let ratio = least[0] / least[1];
+        print!(
+            "{:>24} {:>8} {:>16} {:>12.1} {:>12.1} {ratio:>6.2}",
+            sample.size,
+            sample.file.len(),
+            format!("{} {} {}", reply.number, reply.place, reply.job),
+            least[0],
+            least[1]
         );
+        let every = least.get(2).map(|us| format!("{us:.1}"));
+        println!(" {:>14}", every.unwrap_or_default());
     }
 }
 
-/// Both must accept the file.
-fn agree(case: &Case, file: &[u8], buffers: &mut Buffers) {
-    let verified = (case.verified)(file, buffers);
-    let plain = (case.plain)(file, buffers);
-    assert_eq!((verified, verified.number), (plain, 0), "{}", case.name);
+/// All must give the same reply, with the number that the sample says.
+fn agree(case: &Case, sample: &Sample, buffers: &mut Buffers) -> Reply {
+    let verified = (case.verified)(&sample.file, buffers);
+    assert_eq!(verified.number, sample.number, "{}", sample.size);
+    for plain in case.plain {
+        assert_eq!(verified, plain(&sample.file, buffers), "{}", sample.size);
+    }
+    verified
 }
 
 /// The least time of a call of each, in microseconds.
-fn times(case: &Case, file: &[u8], buffers: &mut Buffers) -> (f64, f64) {
+fn times(case: &Case, file: &[u8], buffers: &mut Buffers) -> Vec<f64> {
+    let all: Vec<Call> = [case.verified].iter().chain(case.plain).copied().collect();
     let start = clock::seconds();
-    let calls = calls(case.plain, file, buffers);
-    let (mut verified, mut plain) = (f64::MAX, f64::MAX);
+    let calls: Vec<u32> = all.iter().map(|&call| calls(call, file, buffers)).collect();
+    let mut least = vec![f64::MAX; all.len()];
     for done in 0..ROUNDS.1 {
         if done >= ROUNDS.0 && clock::seconds() - start > FILE {
             break;
         }
-        verified = verified.min(round(case.verified, file, buffers, calls));
-        plain = plain.min(round(case.plain, file, buffers, calls));
+        for (place, &call) in all.iter().enumerate() {
+            least[place] = least[place].min(round(call, file, buffers, calls[place]));
+        }
     }
-    (verified, plain)
+    least
 }
 
 /// How many calls make a round long enough.

@@ -1,21 +1,31 @@
 //! The whole check: the tests in their order, and the report.
 
+use crate::channel::{self, Search};
 use crate::graph::{Graph, Task};
 use crate::reader::read;
 use crate::reply::Reply;
-use crate::{channel, relation, response};
+use crate::{cases, relation, response, walk};
 
 /// Judges a file. On 0 the report's first places hold R of tasks 0, 1, 2 and so on; any other
 /// number leaves it untouched.
 pub fn check_file(file: &[u8], report: &mut [u32]) -> Reply {
+    check_by(file, report, cases::first_short)
+}
+
+/// The same, but each channel by walking every job of both sides.
+pub fn check_file_by_jobs(file: &[u8], report: &mut [u32]) -> Reply {
+    check_by(file, report, walk::first_short)
+}
+
+fn check_by(file: &[u8], report: &mut [u32], search: Search) -> Reply {
     match read(file) {
-        (Reply { number: 0, .. }, graph) => judge(&graph, report),
+        (Reply { number: 0, .. }, graph) => judge(&graph, report, search),
         (refusal, _) => refusal,
     }
 }
 
-fn judge(graph: &Graph, report: &mut [u32]) -> Reply {
-    match verdict(graph, report.len()) {
+fn judge(graph: &Graph, report: &mut [u32], search: Search) -> Reply {
+    match verdict(graph, report.len(), search) {
         Ok(times) => {
             let count = graph.task_count;
             report[..count].copy_from_slice(&times[..count]);
@@ -26,7 +36,7 @@ fn judge(graph: &Graph, report: &mut [u32]) -> Reply {
 }
 
 /// Tests 8 to 17 of a well-formed graph, and the response times where none refuses.
-fn verdict(graph: &Graph, room: usize) -> Result<[u32; Graph::TASKS], Reply> {
+fn verdict(graph: &Graph, room: usize, search: Search) -> Result<[u32; Graph::TASKS], Reply> {
     let tasks = graph.tasks();
     let refuse = |number, place| Err(Reply::at(number, place));
     if let Some(place) = seen_before(tasks) {
@@ -47,7 +57,7 @@ fn verdict(graph: &Graph, room: usize) -> Result<[u32; Graph::TASKS], Reply> {
         return refuse(12, 0);
     }
     let mut channels = graph.channels().iter().enumerate();
-    match channels.find_map(|(index, c)| channel::refusal(index, c, tasks)) {
+    match channels.find_map(|(index, c)| channel::refusal(index, c, tasks, search)) {
         Some(refusal) => Err(refusal),
         None => Ok(times),
     }
