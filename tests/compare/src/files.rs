@@ -8,8 +8,8 @@ use crate::sketch::{self, Link, Lists, Relation, Shape, Sketch, Task};
 /// A sort's name, how many of ten thousand files are of it, and how one is made.
 pub type Sort = (&'static str, u64, fn(&mut Rng) -> Vec<u8>);
 
-pub const SORTS: [Sort; 16] = [
-    ("valid", 2990, valid),
+pub const SORTS: [Sort; 17] = [
+    ("valid", 2950, valid),
     ("large", 250, large),
     ("spoilt", 2500, spoilt),
     ("edge", 1500, edge),
@@ -23,6 +23,7 @@ pub const SORTS: [Sort; 16] = [
     ("wrapped", 100, wrapped),
     ("full", 10, full),
     ("far", 15, far),
+    ("deep", 40, deep),
     ("slow", 15, slow),
     ("long", 70, long),
 ];
@@ -302,6 +303,30 @@ fn far(rng: &mut Rng) -> Vec<u8> {
     if rng.percent(60) {
         damage::spoil(rng, &mut sketch);
     }
+    record::file(&sketch.records())
+}
+
+/// One channel whose fill drifts through a long window, mostly with a token or a place too few: the
+/// broken job is anywhere, often near the window's end.
+fn deep(rng: &mut Rng) -> Vec<u8> {
+    let turns = rng.pick(&[1, 3, 32]);
+    let lens = [0; 2].map(|_| (rng.index(17), 1 + rng.index(turns)));
+    let most = 65_536 / (lens[0].1 * lens[1].1) as u64;
+    let short = rng.within(most / 2, most).max(8);
+    let long = short + rng.within(1, 3);
+    let offsets = [rng.below(2 * short), rng.below(2 * long)];
+    let mut sketch = pair(rng, [(short, offsets[0]), (long, offsets[1])]);
+    let flip = rng.index(2);
+    let mut link = sketch::link(rng, &sketch.tasks, flip, 1 - flip, lens);
+    match rng.below(3) {
+        0 => {}
+        1 => link.size = link.size.saturating_sub(1),
+        _ => {
+            link.initial = link.initial.saturating_sub(1);
+            link.size = link.size.saturating_sub(1);
+        }
+    }
+    sketch.links.push(link);
     record::file(&sketch.records())
 }
 
