@@ -64,6 +64,10 @@ with-q offset deadline rest = task 4 0 4 1 1 ++ (task 6 offset deadline 2 2 ++ r
 abbrev A-with : ℕ → ℕ → List ℕ → ℕ → List ℕ → List ℕ
 A-with initial size before taken last = channel 0 1 initial size ++ (before ++ (rates 2 taken ++ last))
 
+-- A with 4 tokens consumed
+abbrev pub A-taking-4 : List ℕ
+A-taking-4 = with-q 8 6 (A-with 0 8 [] 4 (relation 4))
+
 -- one task with a channel to itself, with its initial fill and size
 abbrev loop : ℕ → ℕ → List ℕ
 loop initial size = task 5 0 5 1 1 ++ (channel 0 0 initial size ++ rates 1 1)
@@ -88,7 +92,7 @@ starred =
     ∷ refused (with-q 8 6 (A-with 0 8 [] 3 (relation 3))) 10 0 0
     ∷ refused (with-q 8 6 (A-with 0 7 [] 3 (relation 4))) 17 0 3
     ∷ refused (with-q 7 6 (A-with 0 8 [] 3 [])) 16 0 0
-    ∷ refused (with-q 8 6 (A-with 0 8 [] 4 (relation 4))) 14 0 0
+    ∷ refused A-taking-4 14 0 0
     ∷ refused (with-q 8 2 (A-with 0 8 [] 3 (relation 4))) 11 1 0
     ∷ accepted (with-q 8 3 (A-with 0 8 [] 3 (relation 4))) 2 (1 ∷ 3 ∷ [])
     ∷ refused (with-q 8 6 (A-with 0 8 (rate 0 0 0 0) 3 (relation 4))) 16 0 0
