@@ -23,7 +23,7 @@ use Rattle.reader.specs.Reading.{Gives}
 use Rattle.checker.specs.Check.{Judges, ChecksFile}
 
 -- a reader's answer that is no refusal is a graph
-stop-number : (t : files.Test) (place : ℕ) → ¬ (number (files.stop-reply t place) ≡ 0)
+pub stop-number : (t : files.Test) (place : ℕ) → ¬ (number (files.stop-reply t place) ≡ 0)
 stop-number files.unknown place e = omega arith
 stop-number files.cut place e = omega arith
 stop-number files.down place e = omega arith
