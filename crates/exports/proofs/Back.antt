@@ -1,5 +1,6 @@
 -- What a rewrite says of the file: taken, it comes back as it was; 19 tells its length; 18 never shows. Assumes nothing.
 use mathlib.Core.Path.{_≡_, refl, ap, sym, subst, _∙_}
+use mathlib.Core.Logic.{_↔_}
 use mathlib.Core.List.{List, _++_}
 use Prim.Native.Nat.{ℕ, _≤_, _<_}
 use native.Mathlib.Omega.{arith}
@@ -20,7 +21,7 @@ use Rattle.reader.specs.declared.Reading.{Reading}
 use Rattle.reader.specs.Reading.{Gives}
 use Rattle.formed.specs.Formed.{ReadsAs}
 use Rattle.writer.specs.Writing.{Writes, no-file, short, wrote}
-use Rattle.writer.proofs.Writing.{one-file}
+use Rattle.writer.proofs.Writing.{one-file, file-back}
 use Rattle.checker.proofs.Files.{well}
 use Rattle.exports.specs.Exports.{Rewrites, refused, passed, Rewritten, Read}
 
@@ -59,6 +60,26 @@ module _ (file : List ℕ) where
   taken : (r : Reading) → Gives file r → number (r .reply) ≡ 0 → ReadsAs file (r .graph)
   taken r g e = rw (g .graph) (reads (g .answer) (g .means) (sym (ap number (g .reply)) ∙ e))
 
+  -- a graph that the file reads as is what the reader takes, and its reply counts the tasks
+  model-read : (m : Memory) (q : ReadsAs file m) (r : Reading) (g : Gives file r) → g .answer ≡ files.taken (q .model)
+  model-read m q r g = one-answer file (g .answer) (files.taken (q .model)) (g .means) (q .reads)
+
+  counts : (m : Memory) → ReadsAs file m → (r : Reading) → Gives file r → r .reply ≡ Accepted (m .ntasks)
+  unfolding laid
+  counts m q r g = g .reply ∙ ap files.reply (model-read m q r g) ∙ ap (λ (x : Memory). Accepted (x .ntasks)) (sym (q .same))
+
+  -- What `read` takes, `write` gives back. Into enough room its contract allows just this: the reader's own reply, which is 0, the file's bytes at the front, and the rest of the output kept.
+  pub read-back : (r : Reading) → Gives file r → number (r .reply) ≡ 0 → (out : List ℕ) → length file ≤ length out → (s : Reply) (after : List ℕ)
+      → Writes (r .graph) out s after ↔ ((s ≡ r .reply) × (after ≡ file ++ drop (length file) out))
+  read-back r g e out l s after =
+      let t : ReadsAs file (r .graph) = taken r g e in
+      let same : r .reply ≡ Accepted (r .graph .ntasks) = counts (r .graph) t r g in (
+        λ w. let (a, b) = file-back file (r .graph) out t l w in (a ∙ sym same, b),
+        λ p.
+            subst (λ x. Writes (r .graph) out x after) (sym (p .0 ∙ same))
+            (subst (Writes (r .graph) out (Accepted (r .graph .ntasks))) (sym (p .1)) (wrote file t l)),
+      )
+
   module _ (before : List ℕ) (r : Reading) (g : Gives file r) where
     back : {s : Reply} {after : List ℕ} → Rewrites r before s after → number s ≡ 0 → after ≡ file ++ drop (length file) before
     back (refused h) e = absurd (h e)
@@ -94,12 +115,8 @@ module _ (file : List ℕ) where
 -- what the writer put at the front, read again: accepted, and the same graph
 pub graph-again : (g : Memory) (out : List ℕ) (n : ℕ) (after : List ℕ) → Writes g out (Accepted n) after
     → (file : List ℕ) × (take (length file) after ≡ file) × ((r : Reading) → Gives file r → (r .reply ≡ Accepted n) × (r .graph ≡ g))
-unfolding laid
 graph-again g out n after (wrote file q l) =
     (file, take-at file (drop (length file) out) (length file) refl, again)
   where
     again : (r : Reading) → Gives file r → (r .reply ≡ Accepted (g .ntasks)) × (r .graph ≡ g)
-    again r h =
-        let e : h .answer ≡ files.taken (q .model) = one-answer file (h .answer) (files.taken (q .model)) (h .means) (q .reads) in
-        let same : r .graph ≡ g = h .graph ∙ ap (λ a. laid (files.graph-of a)) e ∙ sym (q .same) in
-        (h .reply ∙ ap files.reply e ∙ ap (λ (m : Memory). Accepted (m .ntasks)) (sym (q .same)), same)
+    again r h = (counts file g q r h, h .graph ∙ ap (λ a. laid (files.graph-of a)) (model-read file g q r h) ∙ sym (q .same))
