@@ -1,8 +1,10 @@
 // The checker: the tests in the order of document 01, and the report.
 ghost use mathlib.Core.Path.{_≡_};
 ghost use mathlib.Core.List.{_++_};
+ghost use mathlib.Core.Option.{some};
 ghost use Prim.Native.Nat.{_≤_};
 ghost use lib.ListN.{length, take, drop};
+ghost use Rattle.reply.specs.declared.Reply.the-variants.{Underflow, Overflow};
 ghost use Rattle.graph.specs.Model.{max-tasks, max-channels, max-relations};
 ghost use Rattle.numbers.specs.Lists.{All};
 ghost use Rattle.format.specs.Ranges.{TaskRange, RelationRange};
@@ -107,6 +109,22 @@ fn time_tests(tasks: [Task; Graph::TASKS], n: usize, room: usize) -> Timing
     }
 }
 
+// Channel c runs empty at its consumer's job k.
+fn underflow(c: usize, k: u64) -> Outcome
+    ensures { λ r. ⌜ refusal r ≡ some (Underflow c k) ⌝ }
+{
+    let reply = Reply::Underflow { channel: c, job: k };
+    Outcome::Refused { reply: reply }
+}
+
+// Channel c runs over at its producer's job j.
+fn overflow(c: usize, j: u64) -> Outcome
+    ensures { λ r. ⌜ refusal r ≡ some (Overflow c j) ⌝ }
+{
+    let reply = Reply::Overflow { channel: c, job: j };
+    Outcome::Refused { reply: reply }
+}
+
 // What a verdict on channel c says.
 fn outcome_of(c: usize, verdict: Verdict) -> Outcome
     ensures { λ r. ⌜ refusal r ≡ rules.refusal c verdict ⌝ }
@@ -122,12 +140,8 @@ fn outcome_of(c: usize, verdict: Verdict) -> Outcome
         Verdict::WindowTooLong => Outcome::Refused {
             reply: Reply::WindowTooLong { channel: c },
         },
-        Verdict::Underflow { job: k } => Outcome::Refused {
-            reply: Reply::Underflow { channel: c, job: k },
-        },
-        Verdict::Overflow { job: j } => Outcome::Refused {
-            reply: Reply::Overflow { channel: c, job: j },
-        },
+        Verdict::Underflow { job: k } => underflow(c, k),
+        Verdict::Overflow { job: j } => overflow(c, j),
     }
 }
 
@@ -269,12 +283,12 @@ pub fn check_file(file: &[u8], report: &mut [u32]) -> Reply
     ensures { λ r. ⌜ ChecksFile (now (file .entry)) (now (report .entry)) r (now (report .exit)) ⌝ }
 {
     let reading = reader::read(file);
-    let reply = reading.reply;
+    let answer = reading.reply;
     let graph = reading.graph;
-    let numbers = reply::numbers_of(reply);
+    let numbers = reply::numbers_of(answer);
     if numbers.number == 0 {
         judge(graph, report)
     } else {
-        reply
+        answer
     }
 }

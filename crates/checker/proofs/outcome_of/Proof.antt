@@ -1,5 +1,5 @@
 -- `checker::outcome_of` meets its contract, case by case. Assumes nothing.
-use mathlib.Core.Path.{ap, sym}
+use mathlib.Core.Path.{ap, sym, _∙_}
 use borrow.Author.Needs.{needs}
 use Rattle.rules.specs.Check as rules
 use Rattle.checker.proofs.outcome_of.Statement.{statement}
@@ -20,8 +20,14 @@ enum-told-4 c = search needs
 enum-known-verdict : tie.Need-enum-known-verdict
 enum-known-verdict c = search needs
 
+underflow-requires : tie.Need-underflow-requires
+underflow-requires c κs = search needs
+
 enum-known-verdict-2 : tie.Need-enum-known-verdict-2
 enum-known-verdict-2 c = search needs
+
+overflow-requires : tie.Need-overflow-requires
+overflow-requires c κs = search needs
 
 returns : tie.Need-returns
 returns c = search needs
@@ -36,10 +42,12 @@ returns-4 : tie.Need-returns-4
 returns-4 c = ap (rules.refusal (c .before .before .args .c)) (sym (c .enum-told4 .given .1))
 
 returns-5 : tie.Need-returns-5
-returns-5 c = ap (rules.refusal (c .before .before .before .args .c)) (sym (c .before .verdict .given .1))
+returns-5 c =
+    c .underflow .ensures ∙ ap (rules.refusal (c .before .before .before .before .args .c)) (sym (c .before .before .verdict .given .1))
 
 returns-6 : tie.Need-returns-6
-returns-6 c = ap (rules.refusal (c .before .before .before .args .c)) (sym (c .before .verdict2 .given .1))
+returns-6 c =
+    c .overflow .ensures ∙ ap (rules.refusal (c .before .before .before .before .args .c)) (sym (c .before .before .verdict2 .given .1))
 
 pub outcome-of-spec : {M : Type 1} → statement M
 outcome-of-spec =
@@ -50,7 +58,9 @@ outcome-of-spec =
     enum-told-3
     enum-told-4
     enum-known-verdict
+    underflow-requires
     enum-known-verdict-2
+    overflow-requires
     returns
     returns-2
     returns-3
