@@ -14,8 +14,9 @@ use Rattle.format.specs.Record.{Record, encodes, rate, be, join}
 use Rattle.format.specs.Writer.{rates-of, rates-from}
 use Rattle.format.proofs.Records.{encodes-append}
 use Rattle.format.proofs.Canon.{map-append}
-use Rattle.writer.specs.Parts.{Puts, sideRecords, ratesOf, SideFits, LinkFits}
-use Rattle.writer.proofs.Put.{puts-length, puts-then, puts-same, puts-none}
+use Rattle.output.specs.Output.{Puts}
+use Rattle.writer.specs.Parts.{sideRecords, ratesOf, SideFits, LinkFits}
+use Rattle.output.proofs.Output.{puts-length, puts-then, puts-same, puts-none}
 use Rattle.writer.proofs.Rows.{row-bytes}
 
 -- ---- one channel

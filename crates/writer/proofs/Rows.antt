@@ -9,8 +9,8 @@ use lib.Seq.{take-suc, take-length}
 use Rattle.format.specs.Record.{Record, encode, encodes}
 use Rattle.format.proofs.Records.{encodes-append, encodes-one}
 use Rattle.format.proofs.Canon.{map-append}
-use Rattle.writer.specs.Parts.{Puts}
-use Rattle.writer.proofs.Put.{puts-length, puts-then, puts-same, puts-none}
+use Rattle.output.specs.Output.{Puts}
+use Rattle.output.proofs.Output.{puts-length, puts-then, puts-same, puts-none}
 
 -- The first i of the first n records f x, of w bytes each, stand in the output from `at` on.
 pub record Row {A : Type 0} (f : A → Record) (w : ℕ) (xs : List A) (n : ℕ) (out : List ℕ) (at : ℕ) (after : List ℕ) (next i : ℕ) : Type 0 where

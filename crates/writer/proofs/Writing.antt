@@ -19,8 +19,8 @@ use Rattle.formed.specs.Formed.{WellFormed}
 use Rattle.formed.specs.Formed.{ReadsAs}
 use Rattle.formed.proofs.Exact.{reads-well, well-reads}
 use Rattle.writer.specs.Writing.{Writes, no-file, short, wrote}
-use Rattle.writer.specs.Parts.{Puts}
-use Rattle.writer.proofs.Put.{put-front}
+use Rattle.output.specs.Output.{Puts}
+use Rattle.output.proofs.Output.{put-front}
 
 -- ---- a graph that some file reads as
 

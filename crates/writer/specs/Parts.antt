@@ -1,22 +1,11 @@
--- Parts of a file at their places in the output, and the parts of a graph in memory. Assumes nothing.
-use mathlib.Core.Path.{_≡_}
+-- The parts of a graph in memory, as a file has them. Assumes nothing.
 use mathlib.Core.List.{List, _++_, map}
-use Prim.Native.Nat.{ℕ, _+_, _≤_}
-use lib.ListN.{length, take, drop}
+use Prim.Native.Nat.{ℕ, _≤_}
+use lib.ListN.{length, take}
 use Rattle.graph.specs.Model.{Rates, max-prefix, max-cycle}
 use Rattle.graph.specs.Memory.{MemoryLink, MemoryRates, view-link}
 use Rattle.format.specs.Record.{Record, channel, rate}
 use Rattle.format.specs.Writer.{rates-from}
-
--- bs over the places from `at` on
-unfoldable pub put : List ℕ → ℕ → List ℕ → List ℕ
-put out at bs = take at out ++ (bs ++ drop (at + length bs) out)
-
--- The output `out` with bs from `at` on is `after`, and the next place is `end`.
-pub record Puts (out : List ℕ) (at : ℕ) (bs after : List ℕ) (end : ℕ) : Type 0 where
-  pub bytes : after ≡ put out at bs
-  pub next : end ≡ at + length bs
-  pub room : end ≤ length out
 
 -- the record of a channel in memory
 abbrev pub headOf : MemoryLink → Record

@@ -1,7 +1,7 @@
 -- `writer::put_channel` meets its contract: field by field. Assumes nothing.
 use native.Mathlib.Omega.{arith}
 use Rattle.format.specs.Record.{be, join}
-use Rattle.writer.proofs.Put.{puts-then}
+use Rattle.output.proofs.Output.{puts-then}
 use borrow.Author.Needs.{needs}
 use Rattle.writer.proofs.put_channel.Statement.{statement}
 use Rattle.writer.proofs.put_channel.Tie as tie

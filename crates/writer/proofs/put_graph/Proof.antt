@@ -1,7 +1,7 @@
 -- `writer::put_graph` meets its contract: sort by sort. Assumes nothing.
 use native.Mathlib.Omega.{arith}
 use mathlib.Core.Path.{sym}
-use Rattle.writer.proofs.Put.{puts-then, puts-same}
+use Rattle.output.proofs.Output.{puts-then, puts-same}
 use Rattle.writer.proofs.Whole.{parts-of, bytes-are, file-parts}
 use borrow.Author.Needs.{needs}
 use Rattle.writer.proofs.put_graph.Statement.{statement}

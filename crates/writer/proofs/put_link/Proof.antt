@@ -4,7 +4,7 @@ use native.Mathlib.Omega.{arith}
 use mathlib.Core.Path.{ap, sym, _∙_}
 use Rattle.format.specs.Record.{encodes}
 use Rattle.format.proofs.Records.{encodes-append}
-use Rattle.writer.proofs.Put.{puts-then, puts-same}
+use Rattle.output.proofs.Output.{puts-then, puts-same}
 use Rattle.writer.proofs.Links.{side-next, link-count, link-sides}
 use Rattle.writer.proofs.put_link.Statement.{statement}
 use Rattle.writer.proofs.put_link.Tie as tie

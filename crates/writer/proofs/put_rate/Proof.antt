@@ -1,7 +1,7 @@
 -- `writer::put_rate` meets its contract: field by field. Assumes nothing.
 use native.Mathlib.Omega.{arith}
 use Rattle.format.specs.Record.{be, join}
-use Rattle.writer.proofs.Put.{puts-then}
+use Rattle.output.proofs.Output.{puts-then}
 use borrow.Author.Needs.{needs}
 use Rattle.writer.proofs.put_rate.Statement.{statement}
 use Rattle.writer.proofs.put_rate.Tie as tie

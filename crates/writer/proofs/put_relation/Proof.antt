@@ -5,7 +5,7 @@ use mir.Facts.{toZ-ofZ}
 use mathlib.Core.Path.{ap, _∙_}
 use native.Mathlib.Omega.{arith}
 use Rattle.format.specs.Record.{be, join, wrap}
-use Rattle.writer.proofs.Put.{puts-then, puts-same}
+use Rattle.output.proofs.Output.{puts-then, puts-same}
 use borrow.Author.Needs.{needs}
 use Rattle.writer.proofs.put_relation.Statement.{statement}
 use Rattle.writer.proofs.put_relation.Tie as tie

@@ -4,7 +4,7 @@ use native.Mathlib.Omega.{arith}
 use mathlib.Core.Path.{sym}
 use lib.Seq.{length-take-le}
 use Rattle.format.proofs.Records.{encodes-append}
-use Rattle.writer.proofs.Put.{puts-then, puts-same}
+use Rattle.output.proofs.Output.{puts-then, puts-same}
 use Rattle.writer.proofs.put_side.Statement.{statement}
 use Rattle.writer.proofs.put_side.Tie as tie
 

@@ -1,5 +1,5 @@
 -- `writer::put_task` meets its contract: field by field. Assumes nothing.
-use Rattle.writer.proofs.Put.{puts-then}
+use Rattle.output.proofs.Output.{puts-then}
 use native.Mathlib.Omega.{arith}
 use Rattle.format.specs.Record.{be, join}
 use borrow.Author.Needs.{needs}

@@ -1,0 +1,1 @@
+// Definitions and theorems alone: no code.
