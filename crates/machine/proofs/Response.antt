@@ -117,7 +117,7 @@ module _ (ts : Tasks) (cpu : ℕ) (needs : ℕ → ℕ → ℕ) (runs : ℕ → 
     -- ---- the stretch before a tick that is spent on jobs above i's
 
     module _ (i : ℕ) where
-      settled : (t : ℕ) → ((j l : ℕ) → ts .priority j < ts .priority i → ¬ Unfinished ts cpu needs runs t j l) → Quiet i (suc t)
+      pub settled : (t : ℕ) → ((j l : ℕ) → ts .priority j < ts .priority i → ¬ Unfinished ts cpu needs runs t j l) → Quiet i (suc t)
       settled t none j l m p h =
           let q : ¬ (ran runs j l t < needs j l) = λ x. none j l p (record { mine = m; released = omega arith; left = x }) in
           omega (arith, ran-mono j l (le-suc t))
