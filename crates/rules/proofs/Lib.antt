@@ -11,3 +11,4 @@ pub mod Given
 pub mod Found
 pub mod Usable
 pub mod Files
+pub mod Sharp
