@@ -37,7 +37,9 @@ slice-aggregate-result : tie.Need-slice-aggregate-result
 slice-aggregate-result c = search needs
 
 returns : tie.Need-returns
-returns c = rw (add-sub-cancel-left (c .before .before .before .args .at) (c .before .before .before .args .len))
+returns c =
+    let a = c .before .before .before .args in
+    ap (λ n. take n (drop (a .at) (a .file .now))) (add-sub-cancel-left (a .at) (a .len))
 
 returns-2 : tie.Need-returns-2
 returns-2 c =
