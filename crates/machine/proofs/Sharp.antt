@@ -7,7 +7,7 @@ use Prim.Native.Nat.{ℕ, zero, suc, _+_, _-_, _*_, _≤_, _<_, zero-le}
 use native.Mathlib.Nat.{le-refl}
 use native.Mathlib.Omega.{arith}
 use borrow.Author.Tests.{le-ltb}
-use lib.Dec.{T, ltb, eqb, eqb→eq, ltb→lt}
+use lib.Dec.{T, leb, ltb, eqb, eqb→eq, ltb→lt}
 use Rattle.numbers.specs.Numbers.{sum, ceil}
 use Rattle.machine.specs.Machine.{Tasks, Mine, release, Slot, idle, job, tick, ran, Legal, above, demand, IsResponse, Tested, Served}
 use Rattle.numbers.proofs.Sums.{cases, sum-suc, sum-mono, sum-plus, sum-const, sum-swap, sum-nought, sum-only, ceil-least, ceil-enough}
@@ -207,6 +207,18 @@ pair-tested =
           i l;
       response = pair-responses;
     }
+
+-- Job 1 of the first task is released at tick 2. It is not served where it never runs, nor where it runs a tick too soon or a tick too long.
+pub unserved :
+    ¬ Served pair (all-worst pair) (λ t. idle) 1 0 1
+    × ¬ Served pair (all-worst pair) (λ t. cond (eqb t 1) (job 0 1) idle) 1 0 1
+    × ¬ Served pair (all-worst pair) (λ t. cond (leb 2 t) (job 0 1) idle) 1 0 1
+unfolding ran sum tick
+unserved = (
+  λ s. let none = s .finished in omega arith,
+  λ s. let soon = s .inside 1 refl in omega arith,
+  λ s. let long = s .inside 3 refl in omega arith,
+)
 
 -- The second task's first job is done at tick 4, which is its response time and its deadline: less is not enough, and a tick more is too late.
 pub sharp :
