@@ -9,7 +9,7 @@ use lib.ListN.{length, getD}
 use Rattle.numbers.specs.Numbers.{sum, ceil, from}
 use Rattle.numbers.proofs.Sums.{sum-suc, sum-zero}
 use Rattle.machine.specs.Machine.{Mine, Slot, idle, job, tick, ran, May, demand}
-use Rattle.machine.proofs.Response.{tick-own}
+use Rattle.machine.proofs.Response.{tick-own, nth-tick}
 use Rattle.machine.proofs.Sharp.{met}
 use Rattle.channel.specs.Side.{rate, ended}
 use Rattle.channel.specs.Judge.{lcm, judge}
@@ -39,6 +39,21 @@ least-figures g ok room n l a together e worst l′ k i h =
     met (machine g) 0 (e .needs) (e .runs) (e .legal) (λ j m. let t = ok .timed j (m .counted) in omega arith) (λ j m. together j (m .counted)) (λ j x m. worst j x (m .counted)) i
     (record { counted = h; bound = refl }) (getD l i 0) (a .reports .figures i (omega (arith, a .reports .size))) (getD l′ i 0)
     (subst (λ t. ran (e .runs) i 0 t ≡ e .needs i 0) at (k .in-time i 0 h .finished))
+
+-- one task alone, with a worst time of 2
+abbrev pub alone : Graph
+alone = record { tasks = record { period = 5; offset = 0; deadline = 5; worst = 2; priority = 1 } ∷ []; channels = []; relations = [] }
+
+-- Later jobs count as the first does: where job 1 runs two ticks the figure 1 is not kept, whatever job 0 runs.
+pub later-job : (e : Execution alone) → e .needs 0 1 ≡ 2 → ¬ Kept alone (1 ∷ []) e
+unfolding task
+later-job e n k =
+    let s = k .in-time 0 1 (omega arith) in
+    let all : ran (e .runs) 0 1 6 ≡ 2 = omega (arith, s .finished) in
+    let (t, b, q, z) = nth-tick (e .runs) 0 1 0 6 (omega arith) in
+    let (u, c, p, o) = nth-tick (e .runs) 0 1 1 6 (omega arith) in
+    let same : t ≡ u = omega (arith, s .inside t q, s .inside u p) in
+    omega (arith, ap (ran (e .runs) 0 1) same)
 
 -- ---- queues
 
