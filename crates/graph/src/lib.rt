@@ -1,4 +1,6 @@
 // A graph in memory: its types, its limits, and the lookup of a job's rate.
+#![tactic(auto)]
+
 ghost use Rattle.std.specs.Prelude.{◌≡◌, ◌<◌};
 ghost use Rattle.graph.specs.Memory.{empty_memory};
 ghost use Rattle.graph.specs.Rates.{list_of, place_in, rate_of};

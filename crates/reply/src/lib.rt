@@ -1,4 +1,6 @@
 // What the checker, the reader and the writer answer, each case in words, and the three numbers of each.
+#![tactic(auto)]
+
 ghost use Rattle.std.specs.Prelude.{◌≡◌};
 ghost use Rattle.reply.specs.Reply.{numbered};
 
