@@ -1,4 +1,6 @@
 // What a channel is judged to be; the definitions and theorems of the rule stand in specs/ and proofs/.
+#![tactic(auto)]
+
 #[derive(Drop)]
 pub enum Verdict {
     Fine,
