@@ -1,7 +1,7 @@
 // What a channel is judged to be; the definitions and theorems of the rule stand in specs/ and proofs/.
 #![tactic(auto)]
 
-#[derive(Drop)]
+#[derive(Clone, Copy)]
 pub enum Verdict {
     Fine,
     InitialAboveSize,

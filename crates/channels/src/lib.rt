@@ -11,7 +11,7 @@ use channel::Verdict;
 use graph::{Channel, Task, rate_at};
 
 // When the jobs of a side are released, and how long their windows are.
-#[derive(Drop)]
+#[derive(Clone, Copy)]
 pub struct Pace {
     pub period: u64,
     pub offset: u64,
@@ -19,21 +19,21 @@ pub struct Pace {
 }
 
 // The length of the window, where it is not too long.
-#[derive(Drop)]
+#[derive(Clone, Copy)]
 pub enum Window {
     Length { ticks: u64 },
     TooLong,
 }
 
 // The taker's first job that is short, if there is one.
-#[derive(Drop)]
+#[derive(Clone, Copy)]
 pub enum Search {
     Short { job: u64 },
     Nothing,
 }
 
 // What the first jobs of a side move: at place i, the first i.
-#[derive(Drop)]
+#[derive(Clone, Copy)]
 pub struct Sums {
     pub at: [u64; 49],
 }

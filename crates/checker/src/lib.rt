@@ -19,7 +19,7 @@ use graph::{Channel, Graph, Relation, Task};
 use reply::{Found, Reply};
 
 // What some of the tests found: nothing, or the earliest refusal.
-#[derive(Drop)]
+#[derive(Clone, Copy)]
 pub enum Outcome {
     Passed,
     Refused { reply: Reply },
@@ -67,7 +67,7 @@ fn relation_tests(
 }
 
 // What the tests of the times found, and the figures where they found nothing.
-#[derive(Drop)]
+#[derive(Clone, Copy)]
 struct Timing {
     outcome: Outcome,
     figures: [u32; Graph::TASKS],

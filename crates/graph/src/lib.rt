@@ -6,7 +6,7 @@ ghost use Rattle.graph.specs.Memory.{empty_memory};
 ghost use Rattle.graph.specs.Rates.{list_of, place_in, rate_of};
 
 // A periodic task. Times are ticks; priority 1 is the highest.
-#[derive(Drop)]
+#[derive(Clone, Copy)]
 pub struct Task {
     pub period: u32,
     pub offset: u32,
@@ -16,7 +16,7 @@ pub struct Task {
 }
 
 // The rates of one side of a channel: the first `plen` places of the prefix and the first `clen` of the cycle count.
-#[derive(Drop)]
+#[derive(Clone, Copy)]
 pub struct Side {
     pub prefix: [u16; Graph::PREFIX],
     pub plen: usize,
@@ -25,7 +25,7 @@ pub struct Side {
 }
 
 // A queue from one task to another.
-#[derive(Drop)]
+#[derive(Clone, Copy)]
 pub struct Channel {
     pub producer: u8,
     pub consumer: u8,
@@ -36,7 +36,7 @@ pub struct Channel {
 }
 
 // A relation (n, φ, d) of the tasks p and q.
-#[derive(Drop)]
+#[derive(Clone, Copy)]
 pub struct Relation {
     pub p: u8,
     pub q: u8,
@@ -46,7 +46,7 @@ pub struct Relation {
 }
 
 // A graph: the first places of each array, up to its count, and zero behind them.
-#[derive(Drop)]
+#[derive(Clone, Copy)]
 pub struct Graph {
     pub tasks: [Task; Graph::TASKS],
     pub ntasks: usize,

@@ -14,34 +14,34 @@ use record::{BODY, Entry, Front, Head, Test};
 use reply::{Found, Reply};
 
 // A side and a channel with the entries of a run of rates, and the place behind the run.
-#[derive(Drop)]
+#[derive(Clone, Copy)]
 pub struct Filled {
     pub side: Side,
     pub at: usize,
 }
 
-#[derive(Drop)]
+#[derive(Clone, Copy)]
 pub struct Grown {
     pub link: Channel,
     pub at: usize,
 }
 
 // How the records end: all are good, or a test fires at the record at a place.
-#[derive(Drop)]
+#[derive(Clone, Copy)]
 pub enum End {
     Whole,
     Stopped { test: Test, at: usize },
 }
 
 // How the records end, and the graph that the good ones make.
-#[derive(Drop)]
+#[derive(Clone, Copy)]
 pub struct Run {
     pub end: End,
     pub graph: Graph,
 }
 
 // What reading a file gives: the reply beside the graph, which is the empty one on a refusal.
-#[derive(Drop)]
+#[derive(Clone, Copy)]
 pub struct Reading {
     pub reply: Reply,
     pub graph: Graph,

@@ -9,7 +9,7 @@ ghost use Rattle.record.specs.Heads.{named, length_of, headed, entered};
 use graph::{Graph, Relation, Task};
 
 // What a kind byte says.
-#[derive(Drop)]
+#[derive(Clone, Copy)]
 pub enum Kind {
     Task,
     Channel,
@@ -19,7 +19,7 @@ pub enum Kind {
 }
 
 // A channel's record: what the file says of a channel before its rates.
-#[derive(Drop)]
+#[derive(Clone, Copy)]
 pub struct Head {
     pub producer: u8,
     pub consumer: u8,
@@ -28,7 +28,7 @@ pub struct Head {
 }
 
 // A rate's record: an entry of the list that channel, side and part name.
-#[derive(Drop)]
+#[derive(Clone, Copy)]
 pub struct Entry {
     pub channel: u8,
     pub side: u8,
@@ -37,7 +37,7 @@ pub struct Entry {
 }
 
 // The tests of a record.
-#[derive(Drop)]
+#[derive(Clone, Copy)]
 pub enum Test {
     Unknown,
     Cut,
@@ -48,7 +48,7 @@ pub enum Test {
 
 // What stands at a place of the file: a record that passes the tests, or the first test that fires.
 // Of a rate the fifth test is still to come: it asks for the list that the rate goes into.
-#[derive(Drop)]
+#[derive(Clone, Copy)]
 pub enum Front {
     Task(Task),
     Channel(Head),

@@ -13,7 +13,7 @@ use graph::{Graph, Relation, Task};
 use reply::Found;
 
 // What a task's number finds in the list: its period and offset, or nothing.
-#[derive(Drop)]
+#[derive(Clone, Copy)]
 pub enum Named {
     At { period: u32, offset: u32 },
     Nothing,

@@ -4,7 +4,7 @@
 ghost use Rattle.std.specs.Prelude.{◌≡◌};
 ghost use Rattle.reply.specs.Reply.{numbered};
 
-#[derive(Drop)]
+#[derive(Clone, Copy)]
 pub enum Reply {
     // 0: accepted, read or written
     Accepted { tasks: usize },
@@ -35,14 +35,14 @@ pub enum Reply {
 }
 
 // What a search through numbered items finds: none that fails, or the first that does.
-#[derive(Drop)]
+#[derive(Clone, Copy)]
 pub enum Found {
     Nothing,
     At { index: usize },
 }
 
 // The numbers that document 01 gives a reply.
-#[derive(Drop)]
+#[derive(Clone, Copy)]
 pub struct Numbers {
     pub number: u32,
     pub place: usize,

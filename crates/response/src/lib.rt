@@ -15,14 +15,14 @@ use reply::Found;
 use tasks::cost;
 
 // The response of a task: late, or R.
-#[derive(Drop)]
+#[derive(Clone, Copy)]
 pub enum Response {
     Late,
     Within { ticks: u32 },
 }
 
 // The costs and periods of the tasks that interfere with one: the first `count` places.
-#[derive(Drop)]
+#[derive(Clone, Copy)]
 struct Columns {
     costs: [u32; Graph::TASKS],
     periods: [u32; Graph::TASKS],
@@ -30,7 +30,7 @@ struct Columns {
 }
 
 // The figures of all tasks, and the first that is late.
-#[derive(Drop)]
+#[derive(Clone, Copy)]
 pub struct Responses {
     pub figures: [u32; Graph::TASKS],
     pub late: Found,
