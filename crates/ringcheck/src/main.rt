@@ -1,8 +1,13 @@
 // The program: standard input to reply and figures. A thin shell over `lines::answer`.
-fn main() {
-    let mut file = io::large_buffer();
-    let n = io::read_full(0, &mut file);
+#![tactic(auto)]
+
+use std::io;
+use std::io::{Read, Write};
+
+fn main(rt: HostRuntime) -> io::Result<()> {
+    let mut file = Vec::new(rt.alloc());
+    rt.stdin().take(65536).read_to_end(&mut file)?;
     let mut out = [0u8; 2048];
-    let length = lines::answer(&file[..n], &mut out);
-    io::write_all(1, &out[..length]);
+    let length = lines::answer(file.as_slice(), &mut out);
+    rt.stdout().write_all(&out[..length])
 }
