@@ -1,7 +1,4 @@
 -- `relations::find_among` meets its contract: a walk of its MIR, by hand. The array that came in is copied to a local in memory; a lifetime is made, and that
--- local's first n elements are lent for it, as a slice; `find` is called; the lifetime is ended, and the local is whole again and goes.
--- All that the proof knows of `find` is that it meets its contract.
--- Assumes nothing.
 use mathlib.Core.Path.{◌≡◌, refl, sym}
 use Prim.Native.Nat.{ℕ, ◌+◌, ◌<◌, ◌≤◌, ◌^◌, ◌*◌}
 use native.Mathlib.Omega.{arith}
@@ -65,8 +62,8 @@ use Rattle.relations.specs.contracts.find_among.Key.{name as #relations·find-am
 use Rattle.relations.specs.contracts.find_among as find-among
 use Rattle.relations.proofs.find_among.Statement as stated
 use Rattle.relations.proofs.find_among.Code as code
+use Rattle.relations.proofs.find_among.Goals as goal
 
--- a task in memory, and 32 of them
 abbrev R : RattleType
 R = T.the_row
 
@@ -232,11 +229,3 @@ find_among_meets : {M : Type 1} {𝓤 : Ura M} (𝓛 : Logic 𝓤) (mem : Memory
     → Meets 𝓛 find-among.signature (WpFn 𝓤 𝓛.H 𝓣.C 𝓣.Λ code.function) (find-among.spec 𝓛 mem run)
 find_among_meets {𝓤 = 𝓤} 𝓛 mem run 𝓣 known = walk_Meets 𝓛 find-among.ended stayed (Goes-none 𝓛 0 (λ _. All) yes (λ κs x f. refl), (Goes-none 𝓛 0 (λ _. usize) yes (λ κs x f. refl), (Goes-none 𝓛 0 (λ _. usize) yes (λ κs x f. refl), tt))) (find-among.clauses 𝓛 mem run) (WpFn 𝓤 𝓛.H 𝓣.C 𝓣.Λ code.function) (WpFn-mono 𝓤 𝓛.H 𝓛.laws 𝓣 code.function)
     (find_among_walks 𝓛 mem run 𝓣.C 𝓣.Λ (fm_of 𝓤 𝓛.H 𝓛.laws 𝓣) known)
-
-pub find_among_spec : {M : Type 1} → stated.statement M
-unfolding code.routine tables_of
-find_among_spec 𝓤 𝓛 𝓜 𝓡 =
-    entered 𝓤 𝓛.H (triple_of 𝓛 find-among.signature (find-among.spec 𝓛 𝓜.mem 𝓡.run))
-    (tables 𝓤 𝓛.H 𝓜 𝓡 code.env).C (tables 𝓤 𝓛.H 𝓜 𝓡 code.env).Λ #relations·find-among code.function (code.unfolded 𝓤 𝓛.H 𝓜 𝓡)
-    (find_among_meets 𝓛 𝓜.mem 𝓡.run (tables_of 𝓤 𝓛.H 𝓜 (tables 𝓤 𝓛.H 𝓜 𝓡 code.env))
-    (cited 𝓤 𝓛.H (Find 𝓛 𝓜.mem 𝓡.run) 𝓜 𝓡 code.env #relations·find find-def.routine code.calls-relations::find (find-thm.met 𝓤 𝓛 𝓜 𝓡)))

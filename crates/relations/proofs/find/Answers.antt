@@ -1,6 +1,4 @@
 -- `relations::find` meets its contract: a walk of its MIR, by hand. The length is field 1 of the slice reference. Where i is below it the slice is looked
--- into, element i is taken out of the row, two of its fields are read there, and it is put back; else the slice is left alone.
--- Assumes nothing.
 use mathlib.Core.Path.{◌≡◌, refl, sym}
 use Prim.Native.Nat.{ℕ, ◌<◌, ◌≤◌, ◌^◌, ◌*◌}
 use native.Mathlib.Omega.{arith}
@@ -54,8 +52,8 @@ use Rattle.relations.specs.contracts.find as find
 use Rattle.relations.proofs.find.Statement as stated
 use Rattle.relations.proofs.find.Code as code
 use Rattle.relations.proofs.find.Code.Mir as mir
+use Rattle.relations.proofs.find.Goals as goal
 
--- a task in memory
 abbrev R : RattleType
 R = T.the_row
 
@@ -167,10 +165,3 @@ module _ {M : Type 1} {𝓤 : Ura M} (𝓛 : Logic 𝓤) (mem : Memory → SProp
 find_meets : {M : Type 1} {𝓤 : Ura M} (𝓛 : Logic 𝓤) → (mem : Memory → SProp 𝓤) (run : Routine → Fun 𝓤) (𝓣 : Tables 𝓤 𝓛.H)
     → Meets 𝓛 find.signature (WpFn 𝓤 𝓛.H 𝓣.C 𝓣.Λ code.function) (find.spec 𝓛 mem run)
 find_meets {𝓤 = 𝓤} 𝓛 mem run 𝓣 = walk_Meets 𝓛 find.ended stayed (Goes-none_slice 𝓛 1 (0 ∷ []) tt (plain (λ _. R)) yes, (Goes-none 𝓛 1 (λ _. usize) yes (λ κs x f. refl), tt)) (find.clauses 𝓛 mem run) (WpFn 𝓤 𝓛.H 𝓣.C 𝓣.Λ code.function) (WpFn-mono 𝓤 𝓛.H 𝓛.laws 𝓣 code.function) (find_walks 𝓛 mem run 𝓣.C 𝓣.Λ)
-
-pub find_spec : {M : Type 1} → stated.statement M
-unfolding code.routine tables_of
-find_spec 𝓤 𝓛 𝓜 𝓡 =
-    entered 𝓤 𝓛.H (triple_of 𝓛 find.signature (find.spec 𝓛 𝓜.mem 𝓡.run))
-    (tables 𝓤 𝓛.H 𝓜 𝓡 code.env).C (tables 𝓤 𝓛.H 𝓜 𝓡 code.env).Λ #relations·find code.function (code.unfolded 𝓤 𝓛.H 𝓜 𝓡)
-    (find_meets 𝓛 𝓜.mem 𝓡.run (tables_of 𝓤 𝓛.H 𝓜 (tables 𝓤 𝓛.H 𝓜 𝓡 code.env)))
