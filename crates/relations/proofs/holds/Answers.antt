@@ -25,5 +25,5 @@ returns c =
           (subst (λ z. Equations f.tp f.op q.tq q.oq a.relation.n z a.relation.d) same (c.equations.ensures.equations y)),
       λ y h. c.equations.ensures.not_equations y
           (subst (λ z. Equations f.tp f.op q.tq q.oq a.relation.n z a.relation.d) (sym same)
-            (hold_equations a.tasks a.n g e a.relation r.p r.q f.tp f.op q.tq q.oq first second h)),
+          (hold_equations a.tasks a.n g e a.relation r.p r.q f.tp f.op q.tq q.oq first second h)),
     )
