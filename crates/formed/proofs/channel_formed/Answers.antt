@@ -1,7 +1,5 @@
 -- `formed::channel_formed` meets its contract. Assumes nothing.
 use native.Mathlib.Omega.{arith}
-use borrow.Author.Tests.{not-true, not-false}
-use borrow.Author.Rules.{rules}
 use Rattle.formed.proofs.Tells.{no, told}
 use Rattle.formed.proofs.Parts.{channel_yes, channel_sides}
 use Rattle.formed.proofs.channel_formed.Goals as goal

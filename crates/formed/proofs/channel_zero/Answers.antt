@@ -1,8 +1,6 @@
 -- `formed::channel_zero` meets its contract. Assumes nothing.
 use mathlib.Core.Path.{ap}
 use native.Mathlib.Omega.{arith}
-use borrow.Author.Tests.{not-true, not-false}
-use borrow.Author.Rules.{rules}
 use Rattle.graph.specs.Memory.{MemoryLink}
 use Rattle.formed.proofs.Tells.{no, told}
 use Rattle.formed.proofs.Zero.{channel_zero}

@@ -1,15 +1,9 @@
 -- What the loop of `formed::channels_formed` keeps, and what falls. Assumes nothing.
-use mathlib.Core.Path.{◌≡◌}
 use Prim.Native.Nat.{ℕ, ◌≤◌, ◌<◌, ◌-◌}
-use native.Mathlib.Omega.{arith}
-use borrow.Author.Rules.{rules}
-use borrow.Author.Count.{below_more}
-use borrow.Author.Tests.{not-true, not-false}
-use lib.ListN.{length, get_or}
+use lib.ListN.{get_or}
 use Rattle.graph.specs.Memory.{zero_link}
 use Rattle.formed.specs.Formed.{ChannelFormed, Place}
-use Rattle.formed.proofs.Tells.{yes, no}
-use Rattle.formed.proofs.Parts.{no_link, places_yes, places_no}
+use Rattle.formed.proofs.Parts.{no_link}
 use Rattle.formed.proofs.channels_formed.Given as goal
 
 abbrev pub invariant-loop-i : goal.invariant-loop-i

@@ -1,7 +1,5 @@
 -- `formed::formed` meets its contract. Assumes nothing.
 use native.Mathlib.Omega.{arith}
-use borrow.Author.Tests.{not-true, not-false}
-use borrow.Author.Rules.{rules}
 use Rattle.formed.proofs.Tells.{no, told}
 use Rattle.formed.proofs.Whole.{well_yes, well_no}
 use Rattle.formed.proofs.formed.Goals as goal

@@ -1,6 +1,5 @@
 -- `formed::relation_place` meets its contract. Assumes nothing.
 use native.Mathlib.Omega.{arith}
-use borrow.Author.Rules.{rules}
 use Rattle.formed.proofs.Tells.{told}
 use Rattle.formed.proofs.relation_place.Goals as goal
 

@@ -1,14 +1,11 @@
 -- `formed::relations_formed` meets its contract. Assumes nothing.
 use mathlib.Core.Path.{◌≡◌}
-use Prim.Native.Nat.{ℕ, ◌≤◌, ◌<◌, ◌-◌}
 use native.Mathlib.Omega.{arith}
 use borrow.Author.Rules.{rules}
 use borrow.Author.Count.{below_more}
-use borrow.Author.Tests.{not-true, not-false}
-use lib.ListN.{length, get_or}
+use lib.ListN.{length}
 use Rattle.graph.specs.Model.{no_relation}
 use Rattle.format.specs.Ranges.{RelationRange}
-use Rattle.formed.specs.Formed.{Place}
 use Rattle.formed.proofs.Tells.{yes, no}
 use Rattle.formed.proofs.Parts.{places_yes, places_no}
 use Rattle.formed.proofs.relations_formed.Goals as goal

@@ -1,7 +1,6 @@
 -- `formed::side_zero` meets its contract. Assumes nothing.
 use mathlib.Core.Path.{◌≡◌, ap}
 use native.Mathlib.Omega.{arith}
-use borrow.Author.Tests.{not-true, not-false}
 use borrow.Author.Rules.{rules}
 use lib.ListN.{length}
 use Rattle.graph.specs.Memory.{MemoryRates}

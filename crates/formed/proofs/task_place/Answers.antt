@@ -1,6 +1,5 @@
 -- `formed::task_place` meets its contract. Assumes nothing.
 use native.Mathlib.Omega.{arith}
-use borrow.Author.Rules.{rules}
 use Rattle.formed.proofs.Tells.{told}
 use Rattle.formed.proofs.task_place.Goals as goal
 

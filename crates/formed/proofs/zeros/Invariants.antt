@@ -1,12 +1,7 @@
 -- What the loop of `formed::zeros` keeps, and what falls. Assumes nothing.
 use mathlib.Core.Path.{◌≡◌}
 use Prim.Native.Nat.{ℕ, ◌≤◌, ◌<◌, ◌-◌}
-use native.Mathlib.Omega.{arith}
-use borrow.Author.Rules.{rules}
-use borrow.Author.Count.{below_more}
 use lib.ListN.{length, get_or}
-use Rattle.formed.proofs.Tells.{yes, no}
-use Rattle.formed.proofs.Parts.{zeros_at, at_zeros}
 use Rattle.formed.proofs.zeros.Given as goal
 
 abbrev pub invariant-loop-i : goal.invariant-loop-i
