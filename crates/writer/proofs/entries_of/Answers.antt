@@ -2,9 +2,8 @@
 use borrow.Author.Rules.{rules}
 use native.Mathlib.Omega.{arith}
 use mathlib.Core.Path.{◌≡◌}
-use Prim.Native.Nat.{◌-◌, ◌≤◌}
 use lib.ListN.{length}
-use Rattle.writer.proofs.Links.{Counted, counted_start, counted_fits, counted_more, counted_end}
+use Rattle.writer.proofs.Links.{counted_start, counted_fits, counted_more, counted_end}
 use Rattle.writer.proofs.entries_of.Goals as goal
 
 pub loop-i-init : goal.loop-i-init

@@ -1,10 +1,6 @@
 -- What the loop of `writer::entries_of` keeps, and what falls. Assumes nothing.
-use borrow.Author.Rules.{rules}
-use native.Mathlib.Omega.{arith}
-use mathlib.Core.Path.{◌≡◌}
 use Prim.Native.Nat.{◌-◌, ◌≤◌}
-use lib.ListN.{length}
-use Rattle.writer.proofs.Links.{Counted, counted_start, counted_fits, counted_more, counted_end}
+use Rattle.writer.proofs.Links.{Counted}
 use Rattle.writer.proofs.entries_of.Given as goal
 
 abbrev pub invariant-loop-i : goal.invariant-loop-i

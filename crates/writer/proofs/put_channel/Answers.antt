@@ -2,8 +2,23 @@
 use native.Mathlib.Omega.{arith}
 use Rattle.format.specs.Record.{be, join}
 use Rattle.output.proofs.Output.{puts_then}
-use borrow.Author.Rules.{rules}
 use Rattle.writer.proofs.put_channel.Goals as goal
+
+pub put_byte-b-requires : goal.put_byte-b-requires
+unfolding be
+put_byte-b-requires c = omega arith
+
+pub put_byte-c-requires : goal.put_byte-c-requires
+unfolding be
+put_byte-c-requires c = omega arith
+
+pub put_u32-d-requires : goal.put_u32-d-requires
+unfolding be
+put_u32-d-requires c = omega arith
+
+pub put_u32-requires : goal.put_u32-requires
+unfolding be
+put_u32-requires c = omega arith
 
 pub returns : goal.returns
 unfolding be join

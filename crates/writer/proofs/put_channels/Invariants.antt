@@ -1,12 +1,7 @@
 -- What the loop of `writer::put_channels` keeps, and what falls. Assumes nothing.
-use borrow.Author.Rules.{rules}
-use native.Mathlib.Omega.{arith}
-use mathlib.Core.Path.{◌≡◌, refl}
 use Prim.Native.Nat.{◌-◌, ◌≤◌}
-use lib.ListN.{length}
-use Rattle.format.specs.Record.{be, join}
 use Rattle.writer.specs.Parts.{head_of}
-use Rattle.writer.proofs.Rows.{Row, row_start, row_more, row_end}
+use Rattle.writer.proofs.Rows.{Row}
 use Rattle.writer.proofs.put_channels.Given as goal
 
 abbrev pub invariant-loop-i : goal.invariant-loop-i

@@ -3,7 +3,6 @@ use native.Mathlib.Omega.{arith}
 use mathlib.Core.Path.{sym}
 use Rattle.output.proofs.Output.{puts_then, puts_same}
 use Rattle.writer.proofs.Whole.{parts_of, bytes_are, file_parts}
-use borrow.Author.Rules.{rules}
 use Rattle.writer.proofs.put_graph.Goals as goal
 
 pub put_tasks-a-requires : goal.put_tasks-a-requires

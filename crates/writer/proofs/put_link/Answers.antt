@@ -1,5 +1,4 @@
 -- `writer::put_link` meets its contract: production and then consumption. Assumes nothing.
-use borrow.Author.Rules.{rules}
 use native.Mathlib.Omega.{arith}
 use mathlib.Core.Path.{ap, sym, ◌∙◌}
 use Rattle.format.specs.Record.{encodes}

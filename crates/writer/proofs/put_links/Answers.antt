@@ -2,9 +2,8 @@
 use borrow.Author.Rules.{rules}
 use native.Mathlib.Omega.{arith}
 use mathlib.Core.Path.{◌≡◌}
-use Prim.Native.Nat.{◌-◌, ◌≤◌}
 use lib.ListN.{length}
-use Rattle.writer.proofs.Links.{Linked, linked_start, linked_fits, linked_room, linked_more, linked_end}
+use Rattle.writer.proofs.Links.{linked_start, linked_fits, linked_room, linked_more, linked_end}
 use Rattle.writer.proofs.put_links.Goals as goal
 
 pub loop-i-init : goal.loop-i-init

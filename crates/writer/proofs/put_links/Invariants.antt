@@ -1,10 +1,6 @@
 -- What the loop of `writer::put_links` keeps, and what falls. Assumes nothing.
-use borrow.Author.Rules.{rules}
-use native.Mathlib.Omega.{arith}
-use mathlib.Core.Path.{◌≡◌}
 use Prim.Native.Nat.{◌-◌, ◌≤◌}
-use lib.ListN.{length}
-use Rattle.writer.proofs.Links.{Linked, linked_start, linked_fits, linked_room, linked_more, linked_end}
+use Rattle.writer.proofs.Links.{Linked}
 use Rattle.writer.proofs.put_links.Given as goal
 
 abbrev pub invariant-loop-i : goal.invariant-loop-i

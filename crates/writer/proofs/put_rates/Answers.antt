@@ -1,11 +1,8 @@
 -- `writer::put_rates` meets its contract: a row of records. Assumes nothing.
-use borrow.Author.Rules.{rules}
 use native.Mathlib.Omega.{arith}
 use mathlib.Core.Path.{refl}
-use Prim.Native.Nat.{◌-◌}
-use lib.ListN.{length}
-use Rattle.format.specs.Record.{rate, be, join}
-use Rattle.writer.proofs.Rows.{Row, row_start, row_more, row_all}
+use Rattle.format.specs.Record.{be, join}
+use Rattle.writer.proofs.Rows.{row_start, row_more, row_all}
 use Rattle.writer.proofs.put_rates.Goals as goal
 
 pub loop-i-init : goal.loop-i-init
@@ -16,4 +13,4 @@ unfolding be join
 loop-i-preserved c = row_more _ _ _ _ _ _ (λ x. refl) _ c.loop-i.invariant (omega arith) c.put_rate-next.ensures
 
 pub returns : goal.returns
-returns c = (row_all _ _ _ _ _ c.loop-i.invariant (omega arith), omega arith)
+returns c = record { puts = row_all _ _ _ _ _ c.loop-i.invariant (omega arith); value = omega arith }

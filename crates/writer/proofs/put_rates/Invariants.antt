@@ -1,11 +1,8 @@
 -- What the loop of `writer::put_rates` keeps, and what falls. Assumes nothing.
-use borrow.Author.Rules.{rules}
-use native.Mathlib.Omega.{arith}
-use mathlib.Core.Path.{refl}
 use Prim.Native.Nat.{◌-◌}
 use lib.ListN.{length}
-use Rattle.format.specs.Record.{rate, be, join}
-use Rattle.writer.proofs.Rows.{Row, row_start, row_more, row_all}
+use Rattle.format.specs.Record.{rate}
+use Rattle.writer.proofs.Rows.{Row}
 use Rattle.writer.proofs.put_rates.Given as goal
 
 abbrev pub invariant-loop-i : goal.invariant-loop-i

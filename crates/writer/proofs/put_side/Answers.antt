@@ -1,5 +1,4 @@
 -- `writer::put_side` meets its contract: prefix and then cycle. Assumes nothing.
-use borrow.Author.Rules.{rules}
 use native.Mathlib.Omega.{arith}
 use mathlib.Core.Path.{sym}
 use lib.Seq.{length-take-le}

@@ -2,10 +2,9 @@
 use borrow.Author.Rules.{rules}
 use native.Mathlib.Omega.{arith}
 use mathlib.Core.Path.{◌≡◌, refl}
-use Prim.Native.Nat.{◌-◌, ◌≤◌}
 use lib.ListN.{length}
-use Rattle.format.specs.Record.{task, be, join}
-use Rattle.writer.proofs.Rows.{Row, row_start, row_more, row_end}
+use Rattle.format.specs.Record.{be, join}
+use Rattle.writer.proofs.Rows.{row_start, row_more, row_end}
 use Rattle.writer.proofs.put_tasks.Goals as goal
 
 pub loop-i-init : goal.loop-i-init

@@ -1,9 +1,7 @@
 -- `writer::write` meets its contract: by the test of the graph and the length of the output. Assumes nothing.
-use borrow.Author.Tests.{not-true, not-false}
 use native.Mathlib.Omega.{arith}
 use Rattle.formed.specs.Formed.{WellFormed}
 use Rattle.writer.proofs.Writing.{writes_none, writes_short, writes_file}
-use borrow.Author.Rules.{rules}
 use Rattle.writer.proofs.write.Goals.{Else-not-formed}
 use Rattle.writer.proofs.write.Goals as goal
 
