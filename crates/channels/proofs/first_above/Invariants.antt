@@ -1,8 +1,6 @@
 -- What the loop of `channels::first_above` keeps, and what falls. Assumes nothing.
-use Prim.Native.Nat.{◌+◌, ◌-◌, ◌/◌, ◌≤◌, ◌<◌}
-use native.Mathlib.Omega.{arith}
-use borrow.Author.Rules.{rules}
-use Rattle.channels.proofs.Tables.{Halved, halved_start, mid_in, halved_low, halved_high, halved_done}
+use Prim.Native.Nat.{◌-◌}
+use Rattle.channels.proofs.Tables.{Halved}
 use Rattle.channels.proofs.first_above.Given as goal
 
 abbrev pub invariant-loop-low : goal.invariant-loop-low

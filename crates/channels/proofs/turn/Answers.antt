@@ -9,6 +9,10 @@ use Rattle.numbers.specs.Numbers as Numbers
 use Rattle.numbers.proofs.Sums.{sum_suc}
 use Rattle.channels.proofs.turn.Goals as goal
 
+pub loop-i-init : goal.loop-i-init
+unfolding Numbers.sum
+loop-i-init c = search rules
+
 pub overflow_add-sum : goal.overflow_add-sum
 overflow_add-sum c = omega (arith, c.shared_slice_known-in-loop-i-1.given c.loop-i.i)
 
