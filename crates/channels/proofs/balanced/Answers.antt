@@ -3,7 +3,6 @@ use Prim.Native.Nat.{◌*◌}
 use native.Mathlib.Omega.{arith}
 use lib.ListN.{length}
 use Rattle.channels.proofs.Fits.{turn_times_length, times_period}
-use borrow.Author.Rules.{rules}
 use Rattle.channels.proofs.balanced.Goals as goal
 
 pub overflow_mul-put : goal.overflow_mul-put

@@ -1,6 +1,5 @@
 -- `channels::common` meets its contract. Assumes nothing.
-use borrow.Author.Rules.{rules}
-use Rattle.channels.proofs.Multiples.{Reduced, reduced_none, rest_less, reduced_more, reduced_all}
+use Rattle.channels.proofs.Multiples.{reduced_none, rest_less, reduced_more, reduced_all}
 use Rattle.channels.proofs.common.Goals as goal
 
 pub loop-rest-init : goal.loop-rest-init

@@ -1,6 +1,5 @@
 -- What the loop of `channels::common` keeps, and what falls. Assumes nothing.
-use borrow.Author.Rules.{rules}
-use Rattle.channels.proofs.Multiples.{Reduced, reduced_none, rest_less, reduced_more, reduced_all}
+use Rattle.channels.proofs.Multiples.{Reduced}
 use Rattle.channels.proofs.common.Given as goal
 
 abbrev pub invariant-loop-rest : goal.invariant-loop-rest

@@ -2,11 +2,11 @@
 use Prim.Native.Nat.{◌+◌, ◌*◌, ◌≤◌}
 use native.Mathlib.Nat.{mul-le-mul}
 use native.Mathlib.Omega.{arith}
-use borrow.Author.Rules.{rules}
 use borrow.Author.Tests.{le-leb, lt-leb}
 use Rattle.channels.proofs.lacks.Goals.{Start}
 use Rattle.channels.proofs.lacks.Goals as goal
 
+-- the products in range
 module _ (c : Start) where
   has : c.args.has * c.args.span ≤ 160_000_000_000_000
   has = mul-le-mul {n₁ = c.args.has} {m₁ = c.args.span} {n₂ = 5_000_000} {m₂ = 32_000_000} c.requires.has_most c.requires.span_most

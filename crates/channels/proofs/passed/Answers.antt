@@ -2,7 +2,6 @@
 use mathlib.Core.Path.{sym}
 use native.Mathlib.Nat.{div-eq_of_lt-le}
 use native.Mathlib.Omega.{arith}
-use borrow.Author.Rules.{rules}
 use Rattle.channels.proofs.passed.Goals as goal
 
 pub returns-then-tick-first : goal.returns-then-tick-first

@@ -1,10 +1,10 @@
 -- `channels::row_short` meets its contract: the places before this one are tested. Assumes nothing.
-use Prim.Native.Nat.{ℕ, ◌+◌, ◌*◌, ◌-◌, ◌%◌, ◌≤◌, ◌<◌}
+use Prim.Native.Nat.{ℕ, ◌+◌, ◌*◌, ◌%◌, ◌≤◌, ◌<◌}
 use native.Mathlib.Nat.{mul-le-mul, mod-lt}
 use native.Mathlib.Omega.{arith}
 use lib.ListN.{length}
 use Rattle.channel.specs.Side.{Side}
-use Rattle.channels.specs.Sides.{side_of, Limited}
+use Rattle.channels.specs.Sides.{Limited}
 use Rattle.channels.proofs.Tables.{rises}
 use Rattle.channels.proofs.Weighing.{span_most}
 use Rattle.channels.proofs.Casing.{row_start, rest_small, last_small, has_small, weights, row_found, row_more, row_none}

@@ -1,10 +1,7 @@
 -- `channels::totals` meets its contract. Assumes nothing.
 use mathlib.Core.Path.{refl, ◌∙◌}
-use Prim.Native.Nat.{◌+◌, ◌-◌}
 use native.Mathlib.Omega.{arith}
-use borrow.Author.Rules.{rules}
-use lib.ListN.{length}
-use Rattle.channels.proofs.Tables.{Filled, filled_none, filled_more, filled_all}
+use Rattle.channels.proofs.Tables.{filled_none, filled_more, filled_all}
 use Rattle.channels.proofs.totals.Goals as goal
 
 pub loop-i-init : goal.loop-i-init

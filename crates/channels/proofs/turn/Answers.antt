@@ -1,6 +1,6 @@
 -- `channels::turn` meets its contract. Assumes nothing.
 use mathlib.Core.Path.{◌≡◌, ap}
-use Prim.Native.Nat.{ℕ, ◌≤◌, ◌*◌, ◌-◌}
+use Prim.Native.Nat.{ℕ}
 use native.Mathlib.Numerals.{add-one}
 use native.Mathlib.Omega.{arith}
 use borrow.Author.Rules.{rules}
@@ -14,13 +14,13 @@ unfolding Numbers.sum
 loop-i-init c = search rules
 
 pub overflow_add-sum : goal.overflow_add-sum
-overflow_add-sum c = omega (arith, c.shared_slice_known-in-loop-i-1.given c.loop-i.i)
+overflow_add-sum c = omega (arith, c.type_inv.cycle c.loop-i.i)
 
 pub loop-i-preserved : goal.loop-i-preserved
 loop-i-preserved c =
     let i = c.loop-i.i in
     let rates : ℕ → ℕ = λ n. get_or c.args.cycle.now n 0 in
-    omega (arith, c.shared_slice_known-in-loop-i-1.given i, ap (Numbers.sum rates) (add-one i), sum_suc rates i)
+    omega (arith, c.type_inv.cycle i, ap (Numbers.sum rates) (add-one i), sum_suc rates i)
 
 pub returns : goal.returns
 returns c =

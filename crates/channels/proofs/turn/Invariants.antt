@@ -1,12 +1,8 @@
 -- What the loop of `channels::turn` keeps, and what falls. Assumes nothing.
-use mathlib.Core.Path.{◌≡◌, ap}
-use Prim.Native.Nat.{ℕ, ◌≤◌, ◌*◌, ◌-◌}
-use native.Mathlib.Numerals.{add-one}
-use native.Mathlib.Omega.{arith}
-use borrow.Author.Rules.{rules}
+use mathlib.Core.Path.{◌≡◌}
+use Prim.Native.Nat.{◌≤◌, ◌*◌, ◌-◌}
 use lib.ListN.{length, get_or}
 use Rattle.numbers.specs.Numbers as Numbers
-use Rattle.numbers.proofs.Sums.{sum_suc}
 use Rattle.channels.proofs.turn.Given as goal
 
 abbrev pub invariant-loop-i : goal.invariant-loop-i
