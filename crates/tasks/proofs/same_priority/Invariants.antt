@@ -1,0 +1,14 @@
+-- What the loop of `tasks::same_priority` keeps, and what falls. Assumes nothing.
+use borrow.Author.Count.{below_more}
+use Rattle.tasks.specs.Tasks.{Before}
+use Rattle.tasks.proofs.Tasks.{before_repeats, repeats_before}
+use native.Mathlib.Omega.{arith}
+use borrow.Author.Rules.{rules}
+use Prim.Native.Nat.{ℕ, ◌-◌, ◌≤◌, ◌<◌}
+use Rattle.tasks.proofs.same_priority.Given as goal
+
+abbrev pub invariant-loop-i : goal.invariant-loop-i
+invariant-loop-i l = (l.i ≤ l.n) × ((l.n ≤ 32) × ((k : ℕ) → k < l.i → ¬ Before l.tasks k))
+
+abbrev pub decreases-loop-i : goal.decreases-loop-i
+decreases-loop-i l = l.n - l.i
