@@ -1,6 +1,6 @@
 -- `tasks::overloaded` meets its contract: the total is the sum of the shares passed, each at most a million millions. Assumes nothing.
 use lib.Dec.{ltb}
-use lib.ListN.{length}
+use lib.ListN.{length, take}
 use Rattle.numbers.specs.Numbers.{sum}
 use Rattle.numbers.proofs.Sums.{sum_suc, sum_zero}
 use native.Mathlib.Numerals.{add-one}
@@ -11,8 +11,11 @@ use Rattle.tasks.proofs.Tasks.{load_is, share_most}
 use native.Mathlib.Omega.{arith}
 use borrow.Author.Rules.{rules}
 use mathlib.Core.Path.{◌≡◌, sym, ap, ◌∙◌}
-use Prim.Native.Nat.{◌+◌, ◌*◌, ◌-◌, ◌≤◌}
-use Rattle.tasks.proofs.overloaded.Goals.{After-share_of-total}
+use Prim.Native.Nat.{ℕ, ◌+◌, ◌*◌, ◌≤◌, ◌<◌}
+use Rattle.graph.specs.declared.Task.{Task}
+use mathlib.Core.List.{List}
+use Rattle.numbers.specs.Lists.{All}
+use Rattle.format.specs.Ranges.{TaskRange}
 use Rattle.tasks.proofs.overloaded.Goals as goal
 
 pub loop-i-init : goal.loop-i-init
@@ -24,18 +27,23 @@ share_of-total-requires c =
     times_at c.args.tasks c.args.n (omega arith) c.requires.all c.loop-i.i c.loop-i-test.true
 
 -- the share added is at most a million millions
-added : (c : After-share_of-total) → c.share_of-total.result ≤ 1_000_000 * 1_000_000
-added c = omega (arith, c.share_of-total.ensures, share_most _ (share-of-requires c tt))
+added : (ts : List Task) (n i : ℕ) → length ts ≡ 32 → n ≤ 32 → All TaskRange (take n ts) → i < n → share (task_of ts i) ≤ 1_000_000 * 1_000_000
+added ts n i e m all h = share_most _ (times_at ts n (omega arith) all i h)
 
 pub overflow_add-total : goal.overflow_add-total
-overflow_add-total c = omega (arith, added c)
+overflow_add-total c =
+    let e : length c.args.tasks ≡ 32 = search rules in
+    let h = added c.args.tasks c.args.n c.loop-i.i e (omega arith) c.requires.all c.loop-i-test.true in
+    omega (arith, c.share_of-total.ensures, h)
 
 pub loop-i-preserved : goal.loop-i-preserved
 loop-i-preserved c =
     let tasks = c.args.tasks in
     let i = c.loop-i.i in
     let next : sum (λ k. share (task_of tasks k)) (i + 1) ≡ sum (λ k. share (task_of tasks k)) i + share (task_of tasks i) = rw add-one (sum_suc _ i) in
-    (omega arith, (omega (arith, next, c.share_of-total.ensures), omega (arith, added c)))
+    let e : length tasks ≡ 32 = search rules in
+    let h = added tasks c.args.n i e (omega arith) c.requires.all c.loop-i-test.true in
+    (omega arith, (omega (arith, next, c.share_of-total.ensures), omega (arith, h, c.share_of-total.ensures)))
 
 pub returns : goal.returns
 returns c =

@@ -1,17 +1,9 @@
 -- What the loop of `tasks::overloaded` keeps, and what falls. Assumes nothing.
-use lib.Dec.{ltb}
-use lib.ListN.{length}
 use Rattle.numbers.specs.Numbers.{sum}
-use Rattle.numbers.proofs.Sums.{sum_suc, sum_zero}
-use native.Mathlib.Numerals.{add-one}
 use Rattle.graph.specs.Model.{task_of}
-use Rattle.rules.proofs.Given.{times_at}
 use Rattle.tasks.specs.Tasks.{share}
-use Rattle.tasks.proofs.Tasks.{load_is, share_most}
-use native.Mathlib.Omega.{arith}
-use borrow.Author.Rules.{rules}
-use mathlib.Core.Path.{◌≡◌, sym, ap, ◌∙◌}
-use Prim.Native.Nat.{◌+◌, ◌*◌, ◌-◌, ◌≤◌}
+use mathlib.Core.Path.{◌≡◌}
+use Prim.Native.Nat.{◌*◌, ◌-◌, ◌≤◌}
 use Rattle.tasks.proofs.overloaded.Given as goal
 
 abbrev pub invariant-loop-i : goal.invariant-loop-i

@@ -1,10 +1,7 @@
 -- `tasks::same_priority` meets its contract: no task passed has a priority seen before. Assumes nothing.
 use borrow.Author.Count.{below_more}
-use Rattle.tasks.specs.Tasks.{Before}
 use Rattle.tasks.proofs.Tasks.{before_repeats, repeats_before}
 use native.Mathlib.Omega.{arith}
-use borrow.Author.Rules.{rules}
-use Prim.Native.Nat.{ℕ, ◌-◌, ◌≤◌, ◌<◌}
 use Rattle.tasks.proofs.same_priority.Goals as goal
 
 pub returns-then-seen : goal.returns-then-seen

@@ -1,9 +1,5 @@
 -- What the loop of `tasks::same_priority` keeps, and what falls. Assumes nothing.
-use borrow.Author.Count.{below_more}
 use Rattle.tasks.specs.Tasks.{Before}
-use Rattle.tasks.proofs.Tasks.{before_repeats, repeats_before}
-use native.Mathlib.Omega.{arith}
-use borrow.Author.Rules.{rules}
 use Prim.Native.Nat.{ℕ, ◌-◌, ◌≤◌, ◌<◌}
 use Rattle.tasks.proofs.same_priority.Given as goal
 

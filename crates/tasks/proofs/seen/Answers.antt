@@ -1,17 +1,14 @@
 -- `tasks::seen` meets its contract: the priorities passed differ from task i's. Assumes nothing.
 use borrow.Author.Count.{below_more}
-use Rattle.graph.specs.Model.{task_of}
 use native.Mathlib.Omega.{arith}
-use borrow.Author.Rules.{rules}
-use mathlib.Core.Path.{◌≡◌, sym}
+use mathlib.Core.Path.{sym}
 use mathlib.Core.Bool.{false≢true}
-use Prim.Native.Nat.{ℕ, ◌-◌, ◌≤◌, ◌<◌}
 use Rattle.tasks.proofs.seen.Goals as goal
 
 pub returns-then-other-mine : goal.returns-then-other-mine
 returns-then-other-mine c =
     let l = c.loop-j in
-    (λ e. (l.j, omega arith, c.if-other-mine.true), λ e _. false≢true (sym e))
+    record { before = λ e. (l.j, omega arith, c.if-other-mine.true); not_before = λ e _. false≢true (sym e) }
 
 pub loop-j-preserved : goal.loop-j-preserved
 loop-j-preserved c =
@@ -21,4 +18,4 @@ loop-j-preserved c =
 pub returns : goal.returns
 returns c =
     let l = c.loop-j in
-    (λ e. absurd (false≢true e), λ e (k, h, q). l.invariant.1.1.1 k (omega arith) q)
+    record { before = λ e. absurd (false≢true e); not_before = λ e (k, h, q). l.invariant.1.1.1 k (omega arith) q }

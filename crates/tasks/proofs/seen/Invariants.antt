@@ -1,10 +1,6 @@
 -- What the loop of `tasks::seen` keeps, and what falls. Assumes nothing.
-use borrow.Author.Count.{below_more}
 use Rattle.graph.specs.Model.{task_of}
-use native.Mathlib.Omega.{arith}
-use borrow.Author.Rules.{rules}
-use mathlib.Core.Path.{◌≡◌, sym}
-use mathlib.Core.Bool.{false≢true}
+use mathlib.Core.Path.{◌≡◌}
 use Prim.Native.Nat.{ℕ, ◌-◌, ◌≤◌, ◌<◌}
 use Rattle.tasks.proofs.seen.Given as goal
 

@@ -1,7 +1,6 @@
 -- `tasks::share_of` meets its contract: the product fits, since a job costs at most a million. Assumes nothing.
 use Prim.Native.Nat.{◌/◌}
 use Rattle.tasks.specs.Tasks.{share}
-use borrow.Author.Rules.{rules}
 use mathlib.Core.Path.{ap}
 use Prim.Native.Nat.{◌*◌}
 use Rattle.tasks.proofs.share_of.Goals as goal
