@@ -17,10 +17,6 @@ use native.Mathlib.Omega.{arith}
 use borrow.Author.Rules.{rules}
 use mathlib.Core.Path.{◌≡◌, refl, sym, ap, ◌∙◌}
 use Prim.Native.Nat.{ℕ, ◌+◌, ◌*◌, ◌-◌, ◌≤◌, ◌<◌}
-use Rattle.response.proofs.gather.Statement.{statement}
-use Rattle.response.proofs.gather.Tie as tie
-
-record State (ts : List Task) (n i : ℕ) (mine : Task) (costs periods : List ℕ) (filled j : ℕ) : Type 0 where
   passed : j ≤ n
   few : filled ≤ j
   costs_length : length costs ≡ 32
@@ -28,6 +24,7 @@ record State (ts : List Task) (n i : ℕ) (mine : Task) (costs periods : List �
   this : mine ≡ task_of ts i
   cells : Cells costs periods filled
   same : Of (take n ts) (λ g. (w : ℕ) → asked costs periods filled w ≡ hindrance g i j w)
+use Rattle.response.proofs.gather.Goals as goal
 
 module _ (ts : List Task) (n i : ℕ) (mine : Task) (costs periods : List ℕ) (filled j : ℕ) (s : State ts n i mine costs periods filled j) (small : n ≤ 32) (here : i < n)
     (next : j < n) (b : Bool) (says : (g : Graph) (i' j' : ℕ) → task g i' ≡ mine → task g j' ≡ task_of ts j → b ≡ above (machine g) i' j') where
@@ -68,20 +65,8 @@ moved : {ts : List Task} {n i : ℕ} {mine : Task} {costs periods costs' periods
     → costs' ≡ costs → periods' ≡ periods → filled' ≡ filled → State ts n i mine costs periods filled j → State ts n i mine costs' periods' filled' j
 moved a b c s = rw (a, b, c) s
 
-abbrev invariant-loop : tie.invariant-loop
-invariant-loop n i tasks mine costs₀ periods₀ count₀ j₀ costs periods count j = State tasks n i mine costs periods count j
-
-abbrev decreases-loop : tie.decreases-loop
-decreases-loop n i tasks mine costs₀ periods₀ count₀ j₀ costs periods count j = n - j
-
-mul-mine : tie.Need-overflow-mul-mine invariant-loop decreases-loop
-mul-mine c = search rules
-
-array-copy-out-mine : tie.Need-array-copy-out-mine invariant-loop decreases-loop
-array-copy-out-mine c = search rules
-
-loop-holds : tie.Need-loop-init invariant-loop decreases-loop
-loop-holds c =
+pub loop-j-init : goal.loop-j-init
+loop-j-init c = 
     record {
       passed = omega arith;
       few = omega arith;
@@ -92,88 +77,31 @@ loop-holds c =
       same = λ g e w. asked_none _ _ w ∙ sym (hindrance_none g _ w);
     }
 
-mul-other : tie.Need-overflow-mul-other invariant-loop decreases-loop
-mul-other c = search rules
-
-array-copy-out-other : tie.Need-array-copy-out-other invariant-loop decreases-loop
-array-copy-out-other c = search rules
-
-interferes-requires : tie.Need-interferes-requires invariant-loop decreases-loop
-interferes-requires c κs = search rules
-
-cost-requires : tie.Need-cost-requires invariant-loop decreases-loop
-cost-requires c κs = search rules
-
-mul-costs : tie.Need-overflow-mul-costs invariant-loop decreases-loop
-mul-costs c = search rules
-
-array-write-costs : tie.Need-array-write-costs invariant-loop decreases-loop
-array-write-costs c = search rules
-
-mul-periods : tie.Need-overflow-mul-periods invariant-loop decreases-loop
-mul-periods c = search rules
-
-array-write-periods : tie.Need-array-write-periods invariant-loop decreases-loop
-array-write-periods c = search rules
-
-add-count : tie.Need-overflow-add-count invariant-loop decreases-loop
-add-count c = search rules
-
-add-j : tie.Need-overflow-add-j invariant-loop decreases-loop
-add-j c = search rules
-
-loop-less : tie.Need-loop-smaller invariant-loop decreases-loop
-loop-less c = search rules
-
-loop-again : tie.Need-loop-preserved invariant-loop decreases-loop
-loop-again c =
-    let start = c.before.before.before.before.before.before in
-    let l = c.before.before.before.before.loop in
-    let length-is : length start.args.t1 ≡ 32 = search rules in
-    let next : l.j < start.args.n = c.before.before.before.loop-test.true in
+pub loop-j-preserved : goal.loop-j-preserved
+loop-j-preserved c = 
+    let l = c.loop-j in
+    let length-is : length c.args.tasks ≡ 32 = search rules in
+    let next : l.j < c.args.n = c.loop-j-test.true in
     ⊎_elim
     (λ w.
     moved (w.2 ∙ ap (set l.costs l.count) w.1.ensures) w.3 w.4
-    (step_in start.args.t1 start.args.n start.args.i _ l.costs l.periods l.count l.j l.invariant start.requires.0 start.requires.1.1 next
-    _ c.before.interferes.ensures w.0.taken
-    (times_at start.args.t1 start.args.n (omega arith) start.requires.1.0 l.j next)))
+    (step_in c.args.tasks c.args.n c.args.i _ l.costs l.periods l.count l.j l.invariant c.requires.n_le_max_tasks c.requires.i_lt_n next
+    _ c.interferes.ensures w.0.taken
+    (times_at c.args.tasks c.args.n (omega arith) c.requires.all l.j next)))
     (λ w.
     moved w.1 w.2 w.3
-    (step_out start.args.t1 start.args.n start.args.i _ l.costs l.periods l.count l.j l.invariant start.requires.0 start.requires.1.1 next
-    _ c.before.interferes.ensures w.0.left))
-    c.if1.branch
+    (step_out c.args.tasks c.args.n c.args.i _ l.costs l.periods l.count l.j l.invariant c.requires.n_le_max_tasks c.requires.i_lt_n next
+    _ c.interferes.ensures w.0.left))
+    c.if-interferes.branch
 
-returns : tie.Need-returns invariant-loop decreases-loop
-returns c =
-    let a = c.before.before.before.args in
-    let l = c.before.loop in
-    let length-is : length a.t1 ≡ 32 = search rules in (
+pub returns : goal.returns
+returns c = 
+    let a = c.args in
+    let l = c.loop-j in
+    let length-is : length a.tasks ≡ 32 = search rules in (
       omega (arith, l.invariant.few, l.invariant.passed),
       (
         l.invariant.cells,
-        λ g e w. l.invariant.same g e w ∙ ap (λ n. hindrance g a.i n w) (omega (arith, l.invariant.passed, count_is a.t1 a.n g e (omega arith))),
+        λ g e w. l.invariant.same g e w ∙ ap (λ n. hindrance g a.i n w) (omega (arith, l.invariant.passed, count_is a.tasks a.n g e (omega arith))),
       ),
     )
-
-pub gather_spec : {M : Type 1} → statement M
-gather_spec =
-    tie.close
-    (tie.spec
-    invariant-loop
-    decreases-loop
-    mul-mine
-    array-copy-out-mine
-    loop-holds
-    mul-other
-    array-copy-out-other
-    interferes-requires
-    cost-requires
-    mul-costs
-    array-write-costs
-    mul-periods
-    array-write-periods
-    add-count
-    add-j
-    loop-less
-    loop-again
-    returns)
