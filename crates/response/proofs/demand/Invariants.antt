@@ -1,11 +1,7 @@
 -- What the loop of `response::demand` keeps, and what falls. Assumes nothing.
-use lib.ListN.{length, get_or}
-use Rattle.numbers.specs.Numbers.{ceil}
-use Rattle.response.specs.Columns.{asked, Cell}
-use Rattle.response.proofs.Places.{jobs_most, cell_most, asked_none, asked_more}
-use native.Mathlib.Omega.{arith}
-use borrow.Author.Rules.{rules}
-use mathlib.Core.Path.{◌≡◌, ap, ◌∙◌}
+use lib.ListN.{length}
+use Rattle.response.specs.Columns.{asked}
+use mathlib.Core.Path.{◌≡◌}
 use Prim.Native.Nat.{◌+◌, ◌*◌, ◌-◌, ◌≤◌}
 use Rattle.response.proofs.demand.Given as goal
 

@@ -1,6 +1,5 @@
 -- `response::jobs` meets its contract. Assumes nothing.
 use Rattle.numbers.specs.Numbers.{ceil}
-use borrow.Author.Rules.{rules}
 use mathlib.Core.Path.{refl}
 use Rattle.response.proofs.jobs.Goals as goal
 

@@ -1,10 +1,6 @@
 -- `response::search` meets its contract: no w tried so far is at least its demand. Assumes nothing.
 use borrow.Author.Count.{below_more}
-use lib.ListN.{length}
-use Rattle.response.specs.Columns.{asked}
 use native.Mathlib.Omega.{arith}
-use borrow.Author.Rules.{rules}
-use Prim.Native.Nat.{ℕ, ◌+◌, ◌-◌, ◌≤◌, ◌<◌}
 use Rattle.response.proofs.search.Goals as goal
 
 pub loop-w-init : goal.loop-w-init
@@ -13,7 +9,7 @@ loop-w-init c = (omega arith, (omega arith, λ x h l. absurd (omega arith)))
 pub demand-requires : goal.demand-requires
 demand-requires c =
     let p = c.requires in
-    ((omega arith, (omega arith, omega arith)), p.1)
+    record { own_le_million = (omega arith, (omega arith, omega arith)); periods_len = p.periods_len; cells = p.cells }
 
 pub returns-then-demand-w : goal.returns-then-demand-w
 returns-then-demand-w c =

@@ -1,9 +1,6 @@
 -- What the loop of `response::search` keeps, and what falls. Assumes nothing.
-use borrow.Author.Count.{below_more}
 use lib.ListN.{length}
 use Rattle.response.specs.Columns.{asked}
-use native.Mathlib.Omega.{arith}
-use borrow.Author.Rules.{rules}
 use Prim.Native.Nat.{ℕ, ◌+◌, ◌-◌, ◌≤◌, ◌<◌}
 use Rattle.response.proofs.search.Given as goal
 
