@@ -5,7 +5,6 @@ use native.Mathlib.Nat.{add-sub_cancel_left}
 use native.Mathlib.Omega.{arith}
 use lib.ListN.{length, take, drop, length-drop, drop_of_length-le}
 use lib.Seq.{take_all, take-nil}
-use borrow.Author.Rules.{rules}
 use Rattle.record.proofs.body.Goals as goal
 
 pub returns-then-len-file : goal.returns-then-len-file
@@ -22,6 +21,6 @@ returns-else-len-file c =
 
 pub returns-else-at-file : goal.returns-else-at-file
 returns-else-at-file c =
-    let a = c.before.before.args in
+    let a = c.args in
     let h : length a.file.now ≤ a.at = omega arith in
     sym (ap (take a.len) (drop_of_length-le a.file.now h) ∙ take-nil a.len)

@@ -1,6 +1,5 @@
 -- `record::entry_fits` meets its contract: each test that fails contradicts a range, and together they are the ranges. Assumes nothing.
 use native.Mathlib.Omega.{arith}
-use borrow.Author.Rules.{rules}
 use Rattle.format.specs.Reader.{ranges}
 use Rattle.record.proofs.entry_fits.Goals as goal
 

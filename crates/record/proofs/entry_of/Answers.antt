@@ -1,6 +1,5 @@
 -- `record::entry_of` meets its contract: field by field. Assumes nothing.
 use native.Mathlib.Omega.{arith}
-use borrow.Author.Rules.{rules}
 use Rattle.record.proofs.Fields.{rate_is}
 use Rattle.record.proofs.entry_of.Goals as goal
 

@@ -1,6 +1,5 @@
 -- `record::four` meets its contract: a number of four bytes is two of two. Assumes nothing.
 use native.Mathlib.Omega.{arith}
-use borrow.Author.Rules.{rules}
 use Rattle.record.proofs.Fields.{number_pairs}
 use Rattle.record.proofs.four.Goals as goal
 

@@ -1,12 +1,9 @@
 -- `record::front_at` meets its contract: a name is that of one kind, and the body has its length. Assumes nothing.
 use mathlib.Core.Path.{◌≡◌, sym, ◌∙◌, refl}
 use mathlib.Core.Option.{none, some}
-use Prim.Native.Nat.{◌-◌}
 use native.Mathlib.Omega.{arith}
 use lib.ListN.{get_or}
-use borrow.Author.Rules.{rules}
 use Rattle.format.specs.Record.{kind_of, a-task, a-channel, a-rate, a-relation}
-use Rattle.record.specs.Heads.{length_of}
 use Rattle.record.proofs.Places.{named_one, tells_cut, body_whole, tells_judged}
 use Rattle.record.proofs.front_at.Goals as goal
 

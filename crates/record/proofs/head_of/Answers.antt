@@ -1,6 +1,5 @@
 -- `record::head_of` meets its contract: field by field. Assumes nothing.
 use native.Mathlib.Omega.{arith}
-use borrow.Author.Rules.{rules}
 use Rattle.record.proofs.Fields.{channel_is}
 use Rattle.record.proofs.head_of.Goals as goal
 

@@ -8,9 +8,6 @@ use Rattle.format.specs.Record.{kind_of}
 use Rattle.record.proofs.Table.{each}
 use Rattle.record.proofs.length_of.Goals as goal
 
--- TODO array-read-result : tie.Need-array-read-result
-array-read-result c = search rules
-
 pub returns-then-byte-lt5 : goal.returns-then-byte-lt5
 unfolding kind_of
 returns-then-byte-lt5 c =

@@ -1,7 +1,6 @@
 -- `record::signed_of` meets its contract: the upper half is taken down by 2 ^ 32. Assumes nothing.
 use mathlib.Core.Path.{◌∙◌}
 use native.Mathlib.Omega.{arith}
-use borrow.Author.Rules.{rules}
 use Rattle.record.proofs.Signed.{as_unwrap, down_fits, cast_fits, cast_is}
 use Rattle.record.proofs.signed_of.Goals as goal
 

@@ -1,6 +1,5 @@
 -- `record::task_of` meets its contract: field by field. Assumes nothing.
 use native.Mathlib.Omega.{arith}
-use borrow.Author.Rules.{rules}
 use Rattle.record.proofs.Fields.{task_is}
 use Rattle.record.proofs.task_of.Goals as goal
 

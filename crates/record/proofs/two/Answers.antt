@@ -1,7 +1,6 @@
 -- `record::two` meets its contract: two bytes are one number. Assumes nothing.
 use Prim.Native.Nat.{◌+◌}
 use native.Mathlib.Omega.{arith}
-use borrow.Author.Rules.{rules}
 use Rattle.record.proofs.Fields.{number_two}
 use Rattle.record.proofs.two.Goals as goal
 
