@@ -1,4 +1,6 @@
 // The judgement of one channel: initial fill, balance, window, underflow, overflow.
+#![tactic(auto)]
+
 ghost use Rattle.std.specs.Prelude.{◌≡◌, ◌+◌, ◌*◌, ◌-◌, ◌/◌, ◌%◌, ◌≤◌, ◌<◌, min, max, eqb, leb, ltb, ◌&&◌, length};
 ghost use Rattle.graph.specs.Model.{max_cycle};
 ghost use Rattle.channels.specs.Sides.{joined_of, pace_of, side_of, joined_at, Ready, Weighable, turn_of, Turned};

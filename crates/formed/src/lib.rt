@@ -1,4 +1,6 @@
 // Whether a graph in memory is one that some file reads as.
+#![tactic(auto)]
+
 ghost use Rattle.std.specs.Prelude.{◌≡◌, ◌≤◌, ◌<◌, nat_abs};
 ghost use Rattle.graph.specs.Model.{million, no_task, no_rates, no_relation, max_tasks, max_channels, max_relations};
 ghost use Rattle.graph.specs.Memory.{laid_rates, zero_link};

@@ -1,1 +1,3 @@
 // Definitions and theorems alone: no code.
+
+#![tactic(auto)]

@@ -1,4 +1,6 @@
 // The reader of graph files: record by record from the front, each test in its order, into a graph.
+#![tactic(auto)]
+
 ghost use Rattle.std.specs.Prelude.{◌≡◌, true, List, ℕ, ◌≤◌, length};
 ghost use Rattle.graph.specs.Model.{Rates, Link, Graph as Model, bare};
 ghost use Rattle.graph.specs.Memory.{Memory, laid_rates, laid_link};

@@ -1,4 +1,6 @@
 // One record at a place of a file: its kind, its fields, and the tests of it in their order.
+#![tactic(auto)]
+
 ghost use Rattle.std.specs.Prelude.{◌≡◌, ◌+◌, ◌≤◌, ◌<◌, length, take, drop};
 ghost use Rattle.graph.specs.Model.{Graph as Model};
 ghost use Rattle.format.specs.Reader.{Holds, signed, InRange, State};

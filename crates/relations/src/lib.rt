@@ -1,4 +1,6 @@
 // Test 10: relations, by equations 7 and 8 of source 004, in signed whole numbers.
+#![tactic(auto)]
+
 ghost use Rattle.std.specs.Prelude.{◌≡◌, ◌≤◌, ◌<◌, true, false, take};
 ghost use Rattle.graph.specs.Model.{max_tasks, max_relations};
 ghost use Rattle.numbers.specs.Lists.{All};

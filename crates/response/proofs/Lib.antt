@@ -1,2 +1,4 @@
 pub mod Places
 pub mod Once
+pub mod Gathered
+pub mod Figured

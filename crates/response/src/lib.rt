@@ -1,4 +1,6 @@
 // Test 11: response times, by the demand of the tasks that interfere.
+#![tactic(auto)]
+
 ghost use Rattle.std.specs.Prelude.{◌≡◌, ℕ, ◌+◌, ◌≤◌, ◌<◌, length, take};
 ghost use Rattle.numbers.specs.Numbers.{ceil};
 ghost use Rattle.machine.specs.Machine.{above};

@@ -1,4 +1,6 @@
 // Tests 8 and 12: a priority seen before, and the load.
+#![tactic(auto)]
+
 ghost use Rattle.std.specs.Prelude.{◌≡◌, true, false, ◌≤◌, ◌<◌, ltb, take};
 ghost use Rattle.graph.specs.Model.{max_tasks};
 ghost use Rattle.reply.specs.Found.{Finds};

@@ -1,4 +1,6 @@
 // The writer: a graph in memory to a graph file.
+#![tactic(auto)]
+
 ghost use Rattle.std.specs.Prelude.{◌≡◌, map, ◌+◌, ◌*◌, ◌≤◌, length, take};
 ghost use Rattle.graph.specs.Model.{max_tasks, max_channels, max_relations};
 ghost use Rattle.numbers.specs.Lists.{All};
