@@ -1,8 +1,8 @@
 /*
  * Ghadibosh: checks the schedule of a ring switch from its graph file.
  *
- * Link target/staticlib/libexports.a, which `rt staticlib exports` writes. It
- * needs nothing but the C library's memcpy. The functions keep no state, so
+ * Link target/staticlib/libexports.a, which `./build exports` writes. It needs
+ * nothing but the C library's memcpy. The functions keep no state, so
  * threads may call them at the same time, and ask for no heap. A call takes
  * less than 256 KiB of stack.
  *

@@ -1,4 +1,4 @@
-//! Links the proved checker, which `rt staticlib exports` writes.
+//! Links the proved checker, which `./build exports` writes.
 
 use std::env;
 use std::path::Path;
@@ -12,6 +12,6 @@ fn main() {
         println!("cargo::rustc-link-search=native={}", folder.display());
         println!("cargo::rustc-link-lib=static=exports");
     } else {
-        println!("cargo::error=target/staticlib/libexports.a: run `rt staticlib exports` first");
+        println!("cargo::error=target/staticlib/libexports.a: run `./build exports` first");
     }
 }
