@@ -1,7 +1,8 @@
 #!/usr/bin/env python3
 """Checks that what the documents cite is there: functions `crate::name`, edits `crate/label`, names in
 front of a place as in `name` (crate/specs/File), which has to define them, `name` in or (a/path), files
-and links. Prints what is missing; exit status 1 if any."""
+as crate/specs/File or `Rattle.crate.specs.File`, other files and links. Prints what is missing; exit
+status 1 if any."""
 import glob
 import os
 import re
@@ -21,12 +22,12 @@ def source(crate):
 
 
 def has(name, where):
-    return re.search(r"(?<![\w-])%s(?![\w-])" % re.escape(name), where) is not None
+    return re.search(r"(?<![\w-])%s(?![\w'-])" % re.escape(name), where) is not None
 
 
 def defined(name, where):
     """A line of the file starts with the name, behind words such as `pub` or `record`."""
-    start = r"^ *(?:(?:pub|abbrev|unfoldable|opaque|record|data) )*%s(?![\w-])"
+    start = r"^ *(?:(?:pub|abbrev|unfoldable|opaque|record|data) )*%s(?![\w'-])"
     return re.search(start % re.escape(name), where, re.M) is not None
 
 
@@ -44,12 +45,18 @@ def missing(doc):
     for names, crate, part, file in re.findall(place, words):
         path = os.path.join(ROOT, "crates", crate, part, file + ".antt")
         if not os.path.exists(path):
-            yield "%s/%s/%s" % (crate, part, file)
-            continue
+            continue  # told below
         where = text(path)
         for name in re.findall(r"`([^`]+)`", names):
             if "::" not in name and not defined(name, where):
                 yield "%s in %s/%s/%s" % (name, crate, part, file)
+    # `declared` is no file: the toolchain makes what stands there of the code
+    files = re.findall(r"(?<![\w./-])(?:crates/)?(\w+)/(specs|proofs)/([\w/]+)", words)
+    files += [(c, p, f.replace(".", "/")) for c, p, f in re.findall(r"`Rattle\.(\w+)\.(specs|proofs)\.([\w.]+)`", words)]
+    for crate, part, file in files:
+        path = os.path.join(ROOT, "crates", crate, part, file)
+        if crate in CRATES and not file.startswith("declared/") and not os.path.exists(path + ".antt"):
+            yield "%s/%s/%s" % (crate, part, file)
     for names, path in re.findall(names_of + r" (?:in |\()((?:tests|bench|examples|include)/[\w./-]+\w)", words):
         for name in re.findall(r"`([^`]+)`", names):
             if os.path.isfile(os.path.join(ROOT, path)) and not has(name, text(os.path.join(ROOT, path))):
