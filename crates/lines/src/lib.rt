@@ -1,4 +1,6 @@
 // What the program prints: the reply's three numbers, and one line for each task of an accepted graph.
+#![tactic(auto)]
+
 ghost use Rattle.std.specs.Prelude.{◌≡◌, ◌+◌, ◌*◌, ◌≤◌, length, take};
 ghost use Rattle.output.specs.Output.{Puts};
 ghost use Rattle.lines.specs.Lines.{word, figure_lines, Printed};

@@ -1,10 +1,8 @@
 -- `lines::copy` meets its contract: a turn stores one digit more. Assumes nothing.
 use mathlib.Core.Path.{◌≡◌}
-use Prim.Native.Nat.{◌+◌, ◌-◌, ◌≤◌}
 use native.Mathlib.Omega.{arith}
-use lib.ListN.{length, take}
+use lib.ListN.{length}
 use borrow.Author.Rules.{rules}
-use Rattle.output.specs.Output.{Puts}
 use Rattle.lines.proofs.Digits.{copy_start, copy_turn, copy_end}
 use Rattle.lines.proofs.copy.Goals as goal
 

@@ -1,11 +1,8 @@
 -- What the loop of `lines::copy` keeps, and what falls. Assumes nothing.
 use mathlib.Core.Path.{◌≡◌}
 use Prim.Native.Nat.{◌+◌, ◌-◌, ◌≤◌}
-use native.Mathlib.Omega.{arith}
 use lib.ListN.{length, take}
-use borrow.Author.Rules.{rules}
 use Rattle.output.specs.Output.{Puts}
-use Rattle.lines.proofs.Digits.{copy_start, copy_turn, copy_end}
 use Rattle.lines.proofs.copy.Given as goal
 
 abbrev pub invariant-loop-i : goal.invariant-loop-i

@@ -1,7 +1,6 @@
 -- `lines::put` meets its contract: the digits, and one byte more. Assumes nothing.
 use Prim.Native.Nat.{◌≤◌}
 use native.Mathlib.Omega.{arith}
-use borrow.Author.Rules.{rules}
 use Rattle.lines.proofs.Digits.{few_digits, put_word, word_room}
 use Rattle.lines.proofs.put.Goals as goal
 

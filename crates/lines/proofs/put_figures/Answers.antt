@@ -1,10 +1,9 @@
 -- `lines::put_figures` meets its contract: a turn writes one line more. Assumes nothing.
 use mathlib.Core.Path.{◌≡◌}
-use Prim.Native.Nat.{◌-◌}
 use native.Mathlib.Omega.{arith}
 use lib.ListN.{length}
 use borrow.Author.Rules.{rules}
-use Rattle.lines.proofs.Figures.{Column, column_start, column_room, column_half, column_more, column_end}
+use Rattle.lines.proofs.Figures.{column_start, column_room, column_half, column_more, column_end}
 use Rattle.lines.proofs.put_figures.Goals as goal
 
 pub loop-i-init : goal.loop-i-init

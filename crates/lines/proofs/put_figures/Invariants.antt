@@ -1,10 +1,6 @@
 -- What the loop of `lines::put_figures` keeps, and what falls. Assumes nothing.
-use mathlib.Core.Path.{◌≡◌}
 use Prim.Native.Nat.{◌-◌}
-use native.Mathlib.Omega.{arith}
-use lib.ListN.{length}
-use borrow.Author.Rules.{rules}
-use Rattle.lines.proofs.Figures.{Column, column_start, column_room, column_half, column_more, column_end}
+use Rattle.lines.proofs.Figures.{Column}
 use Rattle.lines.proofs.put_figures.Given as goal
 
 abbrev pub invariant-loop-i : goal.invariant-loop-i
