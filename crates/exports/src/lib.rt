@@ -1,4 +1,6 @@
 // The library for other languages: check, rewrite and read a file, each answer as three numbers.
+#![tactic(auto)]
+
 ghost use Rattle.std.specs.Prelude.{◌≡◌};
 ghost use Rattle.reply.specs.Reply.{numbered, three};
 ghost use Rattle.exports.specs.Exports.{Checked, Rewrites, Rewritten, Read};
