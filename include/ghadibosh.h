@@ -2,8 +2,8 @@
  * Ghadibosh: checks the schedule of a ring switch from its graph file.
  *
  * Link target/staticlib/libexports.a, which `./build exports` writes. It needs
- * nothing but the C library's memcpy. The functions keep no state, so
- * threads may call them at the same time, and ask for no heap. A call takes
+ * nothing but the C library's memcpy and memset. The functions keep no state,
+ * so threads may call them at the same time, and ask for no heap. A call takes
  * less than 256 KiB of stack.
  *
  * Every function hands back the number of its reply and stores the place and
