@@ -1,4 +1,6 @@
 // The checker: the tests in the order of document 01, and the report.
+#![tactic(auto)]
+
 ghost use Rattle.std.specs.Prelude.{◌≡◌, ◌++◌, ◌≤◌, length, take, drop};
 ghost use Rattle.std.proofs.Math.Option.{some};
 ghost use Rattle.reply.specs.declared.Reply.TheVariants.{Underflow, Overflow};

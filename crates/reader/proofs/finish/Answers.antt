@@ -1,6 +1,5 @@
 -- `reader::finish` meets its contract: by the two tests. Assumes nothing.
 use mathlib.Core.Path.{subst}
-use borrow.Author.Rules.{rules}
 use Rattle.reader.specs.Reading.{FirstHollow}
 use Rattle.reader.proofs.Whole.{finish_empty, finish_hollow, finish_whole}
 use Rattle.reader.proofs.finish.Goals as goal

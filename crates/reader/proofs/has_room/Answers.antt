@@ -1,6 +1,5 @@
 -- `reader::has_room` meets its contract: the lengths in memory are those of the lists. Assumes nothing.
 use native.Mathlib.Omega.{arith}
-use borrow.Author.Rules.{rules}
 use Rattle.format.specs.Growth.{side_of}
 use Rattle.format.specs.Reader.{limit}
 use Rattle.reader.proofs.has_room.Goals as goal

@@ -1,11 +1,6 @@
 -- `reader::hollow` meets its contract: no cycle of the channels before i is without entries. Assumes nothing.
-use mathlib.Core.Path.{◌≡◌, refl}
-use Prim.Native.Nat.{ℕ, ◌-◌, ◌*◌, ◌<◌, ◌≤◌}
+use mathlib.Core.Path.{refl}
 use native.Mathlib.Omega.{arith}
-use borrow.Author.Rules.{rules}
-use Rattle.graph.specs.Model.{Graph}
-use Rattle.format.specs.Reader.{Hollow}
-use Rattle.reader.specs.Records.{LaidOut}
 use Rattle.reader.proofs.Whole.{nchannels_is, all_full, hollow_first, hollow_second, two_more}
 use Rattle.reader.proofs.hollow.Goals as goal
 

@@ -1,12 +1,9 @@
 -- What the loop of `reader::hollow` keeps, and what falls. Assumes nothing.
-use mathlib.Core.Path.{◌≡◌, refl}
+use mathlib.Core.Path.{◌≡◌}
 use Prim.Native.Nat.{ℕ, ◌-◌, ◌*◌, ◌<◌, ◌≤◌}
-use native.Mathlib.Omega.{arith}
-use borrow.Author.Rules.{rules}
 use Rattle.graph.specs.Model.{Graph}
 use Rattle.format.specs.Reader.{Hollow}
 use Rattle.reader.specs.Records.{LaidOut}
-use Rattle.reader.proofs.Whole.{nchannels_is, all_full, hollow_first, hollow_second, two_more}
 use Rattle.reader.proofs.hollow.Given as goal
 
 abbrev pub invariant-loop-i : goal.invariant-loop-i

@@ -1,6 +1,5 @@
 -- `reader::link_with` meets its contract: the first entry, the run behind it, and the side put back. Assumes nothing.
 use mathlib.Core.Path.{subst, sym}
-use borrow.Author.Rules.{rules}
 use Rattle.format.specs.Growth.{side_of}
 use Rattle.format.specs.Reader.{limit}
 use Rattle.reader.specs.Records.{Stood}

@@ -1,6 +1,5 @@
 -- `reader::read` meets its contract: by how the records end. Assumes nothing.
 use mathlib.Core.Path.{subst, refl}
-use borrow.Author.Rules.{rules}
 use Rattle.format.specs.Reader.{stopped}
 use Rattle.reader.specs.Records.{test_of, AllRead, EndedBy}
 use Rattle.reader.proofs.read.Goals as goal
@@ -14,11 +13,10 @@ finish-requires c =
 
 pub returns-in-Stopped : goal.returns-in-Stopped
 returns-in-Stopped c =
-    let v = c.end-1.given.0 in
     let r = c.records-run in
     let file = c.args.file.now in
     record {
-      answer = stopped (test_of v.0) v.1.0;
+      answer = stopped (test_of c.in-Stopped.test) c.in-Stopped.at;
       means = subst (EndedBy file r.result.graph) c.in-Stopped.is r.ensures;
       reply = c.stop_reply.ensures;
       graph = c.empty-nothing.ensures;

@@ -1,6 +1,5 @@
 -- `reader::stop_reply` meets its contract: by the test. Assumes nothing.
 use mathlib.Core.Path.{ap, sym}
-use borrow.Author.Rules.{rules}
 use Rattle.format.specs.Reader.{stop_reply}
 use Rattle.reader.specs.Records.{test_of}
 use Rattle.reader.proofs.stop_reply.Goals as goal
