@@ -8,7 +8,7 @@ use lib.ListN.{length, get_or}
 use Rattle.numbers.specs.Lists.{All}
 use Rattle.graph.specs.declared.Task.{Task}
 use Rattle.graph.specs.declared.Relation.{Relation}
-use Rattle.graph.specs.Model.{Rates, Link, Graph, million, max_channels, bare, no_task, task, link, relation}
+use Rattle.graph.specs.Model.{Rates, Link, Graph, million, max_channels, bare, no_task, task, link}
 use Rattle.format.specs.Record as rec
 use Rattle.format.specs.Reader.{Holds, signed, ranges, InRange, cycles}
 use Rattle.format.specs.Writer.{head, rates_of, rates_from, records, Few, FewRates, Formed}

@@ -1,5 +1,5 @@
 -- Rates: the list that the rate of job m stands in, its place there, and the rate. Jobs count from 0. Assumes nothing.
-use Rattle.std.specs.Prelude.{cond, List, ℕ, ◌+◌, ◌-◌, ◌%◌, ltb, eqb, length, get_or}
+use Rattle.std.specs.Prelude.{cond, List, ℕ, ◌-◌, ◌%◌, ltb, eqb, length, get_or}
 
 -- the prefix where it has an entry m, otherwise the cycle
 unfoldable pub list_of : List ℕ → List ℕ → ℕ → List ℕ

@@ -5,7 +5,7 @@ use mathlib.Core.List.{List, [], ◌∷◌}
 use Prim.Native.Nat.{ℕ, zero, suc, ◌+◌, ◌*◌, ◌≤◌, ◌<◌}
 use native.Mathlib.Nat.{le_refl}
 use native.Mathlib.Omega.{arith}
-use lib.ListN.{length, get_or}
+use lib.ListN.{get_or}
 use Rattle.numbers.specs.Numbers.{sum, ceil, from}
 use Rattle.numbers.proofs.Sums.{sum_suc, sum_zero}
 use Rattle.machine.specs.Machine.{Mine, Slot, idle, job, tick, ran, May, demand}

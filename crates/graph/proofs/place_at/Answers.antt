@@ -1,5 +1,4 @@
 -- `graph::place_at` meets its contract: in the prefix, in the first turn, in the cycle, in an empty cycle. Assumes nothing.
-use borrow.Author.Rules.{rules}
 use Rattle.graph.proofs.Rates.{place_in_prefix, place_first_turn, place_in_cycle, place_in_none}
 use Rattle.graph.proofs.place_at.Goals as goal
 

@@ -1,5 +1,4 @@
 -- `graph::rate_at` meets its contract: the entry at the place of the list, or 0 where the list has none. Assumes nothing.
-use borrow.Author.Rules.{rules}
 use Rattle.graph.proofs.Rates.{rate_is, no_rate}
 use Rattle.graph.proofs.rate_at.Goals as goal
 

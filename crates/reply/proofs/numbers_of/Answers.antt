@@ -1,7 +1,6 @@
 -- `reply::numbers_of` meets its contract, case by case. Assumes nothing.
 use mathlib.Core.Path.{ap, sym, ◌∙◌}
 use Rattle.reply.specs.Reply.{numbered}
-use borrow.Author.Rules.{rules}
 use Rattle.reply.proofs.numbers_of.Goals as goal
 
 pub returns-in-Accepted : goal.returns-in-Accepted
