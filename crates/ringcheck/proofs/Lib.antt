@@ -1,1 +1,2 @@
-pub mod Judging
+mod Filling
+mod Judging

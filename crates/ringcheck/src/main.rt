@@ -1,24 +1,39 @@
 // The program: standard input to reply and figures. A thin shell over `lines::answer`.
 #![tactic(auto)]
 
-ghost use Rattle.std.specs.Prelude.{OnOk, IfSome};
+ghost use Rattle.std.specs.Prelude.{◌≡◌, ◌≤◌, OnOk, IfOk, IfSome, take, length};
 ghost use Rattle.ringcheck.specs.Judging.{Judged};
 
-use std::alloc::Global;
 use std::io;
 use std::io::{Read, Write};
 
-// Judges the first 65,536 bytes of an input.
-fn judge<R: Read + Drop, W: Write>(alloc: Global, input: R, output: &mut W) -> io::Result<()>
-    ensures { OnOk result (IfSome (R.remaining input) (λ file. Judged file (W.contents output.old) (W.contents output.new))) }
+// Fills a buffer from its front, as far as the input goes: the answer is how many bytes it gave.
+fn read_full<R: Read>(input: &mut R, file: &mut [u8]) -> io::Result<usize>
+    ensures bound { IfOk result (λ n. n ≤ length file.new) }
+    ensures bytes { IfOk result (λ n. IfSome (R.remaining input.old) (λ xs. take n file.new ≡ take (length file.new) xs)) }
 {
-    let mut file = Vec::new(alloc);
-    input.take(65536).read_to_end(&mut file)?;
+    let mut n: usize = 0;
+    while n < file.len() {
+        let k = input.read(&mut file[n..])?;
+        if k == 0 {
+            return Ok(n);
+        }
+        n += k;
+    }
+    Ok(n)
+}
+
+// Judges the first 65,536 bytes of an input.
+fn judge<R: Read, W: Write>(input: &mut R, output: &mut W) -> io::Result<()>
+    ensures { OnOk result (IfSome (R.remaining input.old) (λ file. Judged file (W.contents output.old) (W.contents output.new))) }
+{
+    let mut file = [0u8; 65536];
+    let n = read_full(input, &mut file)?;
     let mut out = [0u8; 2048];
-    let length = lines::answer(file.as_slice(), &mut out);
+    let length = lines::answer(&file[..n], &mut out);
     output.write_all(&out[..length])
 }
 
 fn main(rt: HostRuntime) -> io::Result<()> {
-    judge(rt.alloc(), rt.stdin(), &mut rt.stdout())
+    judge(&mut rt.stdin(), &mut rt.stdout())
 }
