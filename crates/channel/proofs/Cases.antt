@@ -130,11 +130,11 @@ module _ (t g : Side) (okt : Sound t) (okg : Sound g) (bal : Balanced t g) (stoc
         )
 
 -- Of a balanced channel no job from `first` on is short exactly where none of the cases is.
-pub cases-decide :
+pub cases_decide :
     (t g : Side) → Sound t → Sound g → Balanced t g → (L : ℕ) → IsLcm (span t) (span g) L → (stock : ℕ)
     → ((k : ℕ) → first t g ≤ k → ¬ Short t g stock k)
     ↔ ((a b : ℕ) → a < length t.cycle → b < length g.cycle → ¬ ShortCase (step L t g) t g stock a b)
-cases-decide t g okt okg bal L l stock =
+cases_decide t g okt okg bal L l stock =
     let h : ℕ = step L t g in
     let c : Common (span t) (span g) h = lcm_common (span t) (span g) L (mul-pos (omega arith) okt.some_rate) (mul-pos (omega arith) okg.some_rate) l in (
       λ none a b _ _ s. let r = case_short t g okt okg bal stock h c a b s (first t g) in none r.0 r.1 r.2,

@@ -76,8 +76,8 @@ product a b L h pa pb l s =
     let m : ℕ = s.p * s.q * h in
     let ma : m ≡ s.q * a = omega (arith, ap (λ x. s.q * x) s.left) in
     let mb : m ≡ s.p * b = omega (arith, ap (λ x. s.p * x) s.right) in
-    let some-q : 0 < s.q = some_of b h s.q pb s.right in
-    let most : L ≤ m = l.at_most m (rw ma (mul-pos some-q pa)) (rw ma (dvd-mul_left a s.q)) (rw mb (dvd-mul_left b s.p)) in
+    let some_q : 0 < s.q = some_of b h s.q pb s.right in
+    let most : L ≤ m = l.at_most m (rw ma (mul-pos some_q pa)) (rw ma (dvd-mul_left a s.q)) (rw mb (dvd-mul_left b s.p)) in
     let low : L * h ≤ a * b = omega (arith, mul-le-mul_left h most, ap (λ x. x * b) s.left, ap (λ x. s.p * h * x) s.right) in
     let spread : a * b * (s.x * t) ≡ a * b * (s.y * r) + L * h =
     omega (arith, ap (λ x. L * x) s.meets, ap (λ x. s.x * a * x) et, ap (λ x. s.y * b * x) er) in

@@ -115,12 +115,12 @@ module _ (ch : Channel) (okp : Sound ch.producer) (okc : Sound ch.consumer) wher
       }
 
   -- at every moment of every choice
-  pub stays-unbroken :
+  pub stays_unbroken :
       Passes ch → (c : Choice ch) (n m : ℕ) → Moment c.takes_first n m
       → (moved ch.consumer c.takes m ≤ ch.initial + moved ch.producer c.puts n)
       × (ch.initial + moved ch.producer c.puts n ≤ ch.size + moved ch.consumer c.takes m)
   unfolding moved
-  stays-unbroken ok c n m w =
+  stays_unbroken ok c n m w =
       let i = inside w in
       parts_stay ch okp okc ok i.0 (moved_by ch.producer c.puts n) (moved_by ch.consumer c.takes m)
       (part_of ch.producer c.puts i.0 n i.1 i.2)
@@ -132,7 +132,7 @@ module _ (ch : Channel) (okp : Sound ch.producer) (okc : Sound ch.consumer) wher
 
   passes_unbroken : Passes ch → (c : Choice ch) → ¬ Breaks ch c
   passes_unbroken ok c b =
-      let r = stays-unbroken ok c b.puts_below b.takes_below b.moment in
+      let r = stays_unbroken ok c b.puts_below b.takes_below b.moment in
       ⊎_elim (λ l. omega arith) (λ l. omega arith) b.broken
 
   -- demand 2: the tests are exact

@@ -19,8 +19,8 @@ use Rattle.channel.specs.Stretches.{Says, hunt, short_at, short_case, some_below
 use Rattle.numbers.proofs.Sums.{cases}
 use Rattle.numbers.proofs.Least.{least_is}
 use Rattle.channel.proofs.Periodic.{decided}
-use Rattle.channel.proofs.Cases.{cases-decide}
-use Rattle.channel.proofs.Stretches.{Found, hunt-finds, early_reach, late_reach}
+use Rattle.channel.proofs.Cases.{cases_decide}
+use Rattle.channel.proofs.Stretches.{Found, hunt_finds, early_reach, late_reach}
 
 -- ---- a test of each number below n
 
@@ -99,11 +99,11 @@ says_one t g stock (some k) (some j) a b =
 
 module _ (t g : Side) (okt : Sound t) (okg : Sound g) (bal : Balanced t g) (L : ℕ) (l : IsLcm (span t) (span g) L) (stock : ℕ) where
   early : Found t g stock (first t g) (hunt t g stock (first t g) (early_steps t g) 0)
-  early = hunt-finds t g okt okg stock (first t g) (early_steps t g) 0 (λ j h. absurd (omega arith)) (early_reach t g okt okg)
+  early = hunt_finds t g okt okg stock (first t g) (early_steps t g) 0 (λ j h. absurd (omega arith)) (early_reach t g okt okg)
 
   late : Found t g stock (jobs L t g) (hunt t g stock (jobs L t g) (late_steps L t g) 0)
   late =
-      hunt-finds t g okt okg stock (jobs L t g) (late_steps L t g) 0 (λ j h. absurd (omega arith))
+      hunt_finds t g okt okg stock (jobs L t g) (late_steps L t g) 0 (λ j h. absurd (omega arith))
       (late_reach t g okt okg L (dvd_trans t.period (dvd-mul_right t.period (length t.cycle)) l.left) (dvd_trans g.period (dvd-mul_right g.period (length g.cycle)) l.right))
 
   all_found : (r : Option ℕ) → Found t g stock (jobs L t g) r → Says t g stock r
@@ -115,7 +115,7 @@ module _ (t g : Side) (okt : Sound t) (okg : Sound g) (bal : Balanced t g) (L : 
   early_found e (some k) f = f
   early_found e none f =
       λ k. cases (first t g) k
-      (λ h. (cases-decide t g okt okg bal L l stock).1 (cases_no (step L t g) t g stock e) k h)
+      (λ h. (cases_decide t g okt okg bal L l stock).1 (cases_no (step L t g) t g stock e) k h)
       (λ h. f k h)
 
   by_cases : (b : Bool) → some_case (step L t g) t g stock ≡ b
@@ -146,4 +146,4 @@ module _ (t g : Side) (okt : Sound t) (okg : Sound g) (bal : Balanced t g) (L : 
       go (some k) f = (k, f)
       go none f =
           let s = cases_yes (step L t g) t g stock e in
-          absurd ((cases-decide t g okt okg bal L l stock).0 (λ k _. f k) s.0 s.1 s.2 s.3 s.4)
+          absurd ((cases_decide t g okt okg bal L l stock).0 (λ k _. f k) s.0 s.1 s.2 s.3 s.4)

@@ -9,10 +9,10 @@ use Rattle.channel.proofs.Jobs.{ended_iff, ended_mono}
 use Rattle.channel.proofs.Totals.{total_mono}
 
 -- what ended jobs move is there, and is counted by any n past the released jobs
-given-at-least :
+given_at_least :
     (g : Side) → Sound g → (tick : ℕ) (given : ℕ → ℕ) → Part g tick given → (n : ℕ) → tick < release g n
     → total g (ended g tick) ≤ sum given n
-given-at-least g ok tick given part n h =
+given_at_least g ok tick given part n h =
     sum_above given (rate g) (ended g tick) n
     (cases (ended g tick) n (λ l. l) (λ l. omega (arith, (ended_iff g ok n tick).0 l)))
     (λ j l. omega (arith, part.all j ((ended_iff g ok j tick).0 l)))
@@ -30,7 +30,7 @@ module _ (t g : Side) (ok : Sound g) (stock : ℕ) (fine : (k : ℕ) → ¬ Shor
         fine k,
         sum_mono taken (rate t) (suc k) (λ j _. pt.at_most j),
         total_mono g (ended g (release t k)) (ended g tick) (ended_mono g ok (release t k) tick r),
-        given-at-least g ok tick given pg n h,
+        given_at_least g ok tick given pg n h,
       ))
       (λ r. omega (arith, sum_suc taken k, pt.none k r, stays k))
 

@@ -24,9 +24,9 @@ module _ (t g : Side) (okt : Sound t) (okg : Sound g) where
     taker_later : total t (suc (k + a * length t.cycle)) ≡ total t (suc k) + a * turn t
     taker_later = ap (total t) (omega arith) ∙ turns t okt (suc k) a (omega arith)
 
-    giver-later :
+    giver_later :
         total g (ended g (release t (k + a * length t.cycle))) ≡ total g (ended g (release t k)) + b * turn g
-    giver-later =
+    giver_later =
         ap (λ x. total g (ended g x)) (omega arith)
         ∙ ap (total g) (ended_later g okg (release t k) (b * length g.cycle) (omega (arith, past k h)))
         ∙ turns g okg (ended g (release t k)) b (omega (arith, (ended_iff g okg (length g.prefix) (release t k)).1 (past k h)))
@@ -50,7 +50,7 @@ module _ (t g : Side) (okt : Sound t) (okg : Sound g) where
     back : (k : ℕ) → first t g ≤ k → Short t g stock (k + L / t.period) → Short t g stock k
     back k h s =
         let u : Short t g stock (k + L / span t * length t.cycle) = rw in_jobs at s in
-        omega (arith, taker_later (L / span t) (L / span g) same_l k h, giver-later (L / span t) (L / span g) same_l k h, same_tokens)
+        omega (arith, taker_later (L / span t) (L / span g) same_l k h, giver_later (L / span t) (L / span g) same_l k h, same_tokens)
 
     earlier_in : (f k : ℕ) → k < f → Short t g stock k → (j : ℕ) × (j < jobs L t g) × (j ≤ k) × Short t g stock j
     earlier_in zero k h s = absurd (omega arith)
@@ -82,17 +82,17 @@ module _ (t g : Side) (okt : Sound t) (okg : Sound g) where
         omega (
           arith,
           taker_later (q * span g) (q * span t) same at (le_refl at),
-          giver-later (q * span g) (q * span t) same at (le_refl at),
+          giver_later (q * span g) (q * span t) same at (le_refl at),
           mul-le-mul_left q more,
         ),
       )
 
   -- how many jobs are tested, under the limits of a graph file: no offset above a million, no prefix above 16, no window too long
-  pub jobs-few :
+  pub jobs_few :
       (L : ℕ) → 0 < L → span g ∣ L → g.offset ≤ 1_000_000 → length t.prefix ≤ 16 → length g.prefix ≤ 16
       → L / t.period ≤ longest
       → jobs L t g ≤ 2_179_666
-  jobs-few L pos d go tl gl w =
+  jobs_few L pos d go tl gl w =
       let long : L ≤ 65537 * t.period = omega (arith, lt-div-mul-add {a = L} {b = t.period} (omega arith), mul-le-mul_right t.period w) in
       let wide : g.period ≤ L = omega (arith, le-mul_of_pos_right g.period okg.some_rate, le_of_dvd pos d) in
       let start : end g (length g.prefix) - t.offset ≤ t.period * 2_114_129 = omega (arith, mul-le-mul_right g.period gl) in

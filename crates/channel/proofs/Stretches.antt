@@ -77,10 +77,10 @@ module _ (t g : Side) (okt : Sound t) (okg : Sound g) where
     )
 
     -- the first short job of a stretch
-    first-in :
+    first_in :
         (k : ℕ) → ((j : ℕ) → j < k → ¬ Short t g stock j) → supply t g stock k < total t (beyond t g k)
         → First (Short t g stock) (k + least (λ i. ltb (supply t g stock k) (total t (suc (k + i)))) (beyond t g k - k))
-    first-in k before s =
+    first_in k before s =
         let n : ℕ = beyond t g k in
         let p : ℕ → Bool = λ i. ltb (supply t g stock k) (total t (suc (k + i))) in
         let i = least_is p (n - k) in
@@ -98,12 +98,12 @@ module _ (t g : Side) (okt : Sound t) (okg : Sound g) where
         (λ l. l) in
         ((short_in k (k + r) (omega arith) (omega arith)).1 (ltb-true (supply t g stock k) (total t (suc (k + r))) (i.passes inside)), quiet)
 
-    pub hunt-finds :
+    pub hunt_finds :
         (n steps k : ℕ) → ((j : ℕ) → j < k → ¬ Short t g stock j) → n ≤ after t g steps k
         → Found t g stock n (hunt t g stock n steps k)
     unfolding hunt after
-    hunt-finds n zero k before far = λ j h. before j (omega arith)
-    hunt-finds n (suc steps) k before far = go (leb n k) (ltb (supply t g stock k) (total t (beyond t g k))) refl refl (hunt-finds n steps (beyond t g k))
+    hunt_finds n zero k before far = λ j h. before j (omega arith)
+    hunt_finds n (suc steps) k before far = go (leb n k) (ltb (supply t g stock k) (total t (beyond t g k))) refl refl (hunt_finds n steps (beyond t g k))
       where
         go :
             (a b : Bool) → leb n k ≡ a → ltb (supply t g stock k) (total t (beyond t g k)) ≡ b
@@ -114,7 +114,7 @@ module _ (t g : Side) (okt : Sound t) (okg : Sound g) where
             (cond b (some (k + least (λ i. ltb (supply t g stock k) (total t (suc (k + i)))) (beyond t g k - k)))
             (hunt t g stock n steps (beyond t g k))))
         go true b ea eb rest = λ j h. before j (omega (arith, leb-true n k ea))
-        go false true ea eb rest = first-in k before (ltb-true (supply t g stock k) (total t (beyond t g k)) eb)
+        go false true ea eb rest = first_in k before (ltb-true (supply t g stock k) (total t (beyond t g k)) eb)
         go false false ea eb rest =
             rest
             (λ j h. cases k j

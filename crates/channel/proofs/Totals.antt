@@ -64,10 +64,10 @@ module _ (s : Side) (ok : Sound s) where
       ∙ omega (arith, turns m c h)
 
   -- the total by the entries of prefix and one turn alone
-  pub total-folded :
+  pub total_folded :
       (m : ℕ) → length s.prefix ≤ m
       → total s m ≡ total s (length s.prefix + (m - length s.prefix) % length s.cycle) + (m - length s.prefix) / length s.cycle * turn s
-  total-folded m h =
+  total_folded m h =
       let n : ℕ = length s.cycle in
       let d : ℕ = m - length s.prefix in
       let e : length s.prefix + d % n + d / n * n ≡ m = omega (arith, div-add-mod' d n) in

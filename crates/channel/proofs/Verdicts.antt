@@ -25,9 +25,9 @@ module _ (ch : Channel) (okp : Sound ch.producer) (okc : Sound ch.consumer) wher
   )
 
   -- a balanced channel whose window is too long gives 15
-  pub long-refused :
+  pub long_refused :
       (v : Verdict) → Means ch v → ch.initial ≤ ch.size → Balanced ch.producer ch.consumer → TooLong ch → v ≡ WindowTooLong
-  long-refused v m fits bal long = means_one v WindowTooLong m (fits, bal, long)
+  long_refused v m fits bal long = means_one v WindowTooLong m (fits, bal, long)
 
   -- any verdict but these two has a choice that breaks the channel
   pub refused_broken : (v : Verdict) → Means ch v → (v ≡ Fine) ⊎ ((v ≡ WindowTooLong) ⊎ ((c : Choice ch) × Breaks ch c))

@@ -88,11 +88,11 @@ module _ (g : Side) (stock step tick wants : ℕ) (ok : Row g stock step tick wa
           }
 
       -- is the test of the case
-      pub is-case :
+      pub is_case :
           tested g stock tick wants (get_or sums place 0) (rest + 1) end (get_or sums (length g.prefix + length g.cycle) 0 - get_or sums (length g.prefix) 0)
           ≡ short_at step g stock tick wants (place - length g.prefix)
       unfolding short_at
-      is-case =
+      is_case =
           let m : ℕ = length g.prefix + (place - length g.prefix) in
           let e : m ≡ place = omega (arith, s.starts) in
           let x : rest + 1 ≡ suc ((side.end g m + (step - 1 - tick % step)) % step) =
@@ -105,12 +105,12 @@ module _ (g : Side) (stock step tick wants : ℕ) (ok : Row g stock step tick wa
       pub row_found : (r : Bool) → r ≡ tested g stock tick wants (get_or sums place 0) (rest + 1) end (get_or sums (length g.prefix + length g.cycle) 0 - get_or sums (length g.prefix) 0)
           → r ≡ true → true ≡ some_below (short_at step g stock tick wants) (length g.cycle)
       row_found r e t =
-          sym (yes_some (short_at step g stock tick wants) (length g.cycle) (place - length g.prefix) (omega (arith, s.starts)) (sym is-case ∙ sym e ∙ t))
+          sym (yes_some (short_at step g stock tick wants) (length g.cycle) (place - length g.prefix) (omega (arith, s.starts)) (sym is_case ∙ sym e ∙ t))
 
       pub row_more : (r : Bool) → r ≡ tested g stock tick wants (get_or sums place 0) (rest + 1) end (get_or sums (length g.prefix + length g.cycle) 0 - get_or sums (length g.prefix) 0)
           → r ≡ false → Rowed g stock step tick wants (end + g.period) ((rest + g.period % step) % step) (place + 1)
       row_more r e f =
-          let now : short_at step g stock tick wants (place - length g.prefix) ≡ false = sym is-case ∙ sym e ∙ f in
+          let now : short_at step g stock tick wants (place - length g.prefix) ≡ false = sym is_case ∙ sym e ∙ f in
           let a : ℕ = step - 1 - tick % step in
           record {
             starts = omega (arith, s.starts);

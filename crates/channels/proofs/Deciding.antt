@@ -11,9 +11,9 @@ use Rattle.numbers.proofs.Sums.{cases}
 use Rattle.channel.specs.Side.{Side, span, Short, first, jobs}
 use Rattle.channel.specs.Cases.{step}
 use Rattle.channel.specs.Stretches.{some_case}
-use Rattle.channel.proofs.Periodic.{decided, jobs-few}
+use Rattle.channel.proofs.Periodic.{decided, jobs_few}
 use Rattle.channel.proofs.Common.{Common, lcm_common, common_most}
-use Rattle.channel.proofs.Cases.{cases-decide}
+use Rattle.channel.proofs.Cases.{cases_decide}
 use Rattle.channel.proofs.Fast.{cases_no}
 use Rattle.channels.specs.declared.Pace.{Pace}
 use Rattle.channels.specs.declared.Search.{Search}
@@ -48,7 +48,7 @@ countable taker giver tprefix tcycle gprefix gcycle stock L ok =
 module _ (t g : Side) (stock L : ℕ) (ok : Repeats t g stock L) where
   few : jobs L t g ≤ 2_179_666
   few =
-      jobs-few t g (sound ok.taker) (sound ok.giver) L ok.least.positive ok.least.right ok.giver.offset_most ok.taker.prefix_most ok.giver.prefix_most ok.length_most
+      jobs_few t g (sound ok.taker) (sound ok.giver) L ok.least.positive ok.least.right ok.giver.offset_most ok.taker.prefix_most ok.giver.prefix_most ok.length_most
 
   common : Common (span t) (span g) (step L t g)
   common = lcm_common (span t) (span g) L (span_some t ok.taker) (span_some g ok.giver) ok.least
@@ -96,7 +96,7 @@ module _ (t g : Side) (stock L : ℕ) (ok : Repeats t g stock L) where
         decides = λ f k.
             cases (first t g) k
             (λ h.
-            (cases-decide t g (sound ok.taker) (sound ok.giver) ok.balanced L ok.least stock).1
+            (cases_decide t g (sound ok.taker) (sound ok.giver) ok.balanced L ok.least stock).1
             (cases_no (step L t g) t g stock (sym eb ∙ no-case)) k h)
             (λ h. f k (omega (arith, is_first)));
         searchable = searchable n (omega (arith, is_first));

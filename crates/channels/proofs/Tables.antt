@@ -12,7 +12,7 @@ use Rattle.numbers.proofs.Sums.{cases, extend, sum_zero, sum_suc, sum_mono, sum_
 use Rattle.graph.specs.Rates.{rate_of}
 use Rattle.graph.proofs.Rates.{in_cycle, rate_is, place_first_turn}
 use Rattle.channel.specs.Side.{Side, Sound, turn}
-use Rattle.channel.proofs.Totals.{total_mono, total_bound, rate_cycle, turns, total-folded}
+use Rattle.channel.proofs.Totals.{total_mono, total_bound, rate_cycle, turns, total_folded}
 use Rattle.channels.specs.Tables.{total_of, Listed, Tabled, Above}
 
 module _ (prefix cycle : List ℕ) where
@@ -84,7 +84,7 @@ module _ (prefix cycle : List ℕ) where
           rw turn_is
           (omega (
             arith,
-            total-folded timeless sound m h,
+            total_folded timeless sound m h,
             tab.at (length prefix + r) (omega (arith, mod-lt (m - length prefix) {m = n} ok.some_rate)),
           ))
 

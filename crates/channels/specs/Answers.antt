@@ -31,7 +31,7 @@ abbrev pub Measured : ℕ → ℕ → ℕ → window.Window → Type 0
 Measured a b least (window.TheVariants.Length ticks) = (ticks ≡ lcm a b) × (lcm a b / least ≤ longest)
 Measured a b least window.TheVariants.TooLong = longest < lcm a b / least
 
--- Two sides in range, and so few jobs that the totals fit 64 bits: 2,179,666 is the most that decide (`jobs-few` in channel/proofs/Periodic).
+-- Two sides in range, and so few jobs that the totals fit 64 bits: 2,179,666 is the most that decide (`jobs_few` in channel/proofs/Periodic).
 pub record Searchable (t g : Side) (stock jobs : ℕ) : Type 0 where
   pub taker : Limited t
   pub giver : Limited g

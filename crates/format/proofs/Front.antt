@@ -149,11 +149,11 @@ is_front s (some k) bs full h =
         )
     go false e = absurd (h.1 range (omega arith) (in_no s.graph (r s k bs) e))
 
-pub good-front :
+pub good_front :
     (s : State) (k : Kind) (bs : List ℕ) → size k ≤ length bs → Good s (decode k (take (size k) bs))
     → front s (some k) bs ≡ passes (decode k (take (size k) bs))
 unfolding front
-good-front s k bs l g =
+good_front s k bs l g =
     rw (
       le-ltb (length bs) (size k) l,
       le-ltb (rank (r s k bs)) s.floor g.in_order,

@@ -17,7 +17,7 @@ use Rattle.format.specs.Reader.{State, start, step, Good, AllGood, steps, cycles
 use Rattle.numbers.proofs.Lists.{all_take, all_drop}
 use Rattle.numbers.proofs.Sums.{cases}
 use Rattle.format.proofs.Records.{kind_code, code_kind, kind_decode, encode_decode, body_length, decode_body}
-use Rattle.format.proofs.Front.{Says, front_is, is_front, good-front}
+use Rattle.format.proofs.Front.{Says, front_is, is_front, good_front}
 
 -- ---- the first place of a list where there stands 0
 
@@ -175,7 +175,7 @@ loop_good n s at r bs g =
     let long : size k ≤ length (body r ++ bs) = omega (arith, length-append (body r) bs) in
     let f : front s (kind_of (code k)) (body r ++ bs) ≡ passes r =
     ap (λ o. front s o (body r ++ bs)) (kind_code k)
-    ∙ good-front s k (body r ++ bs) long (subst (Good s) (sym d) g)
+    ∙ good_front s k (body r ++ bs) long (subst (Good s) (sym d) g)
     ∙ ap passes d in
     ap (λ (x : Front). elim x as (λ _. Answer) [ stops t ↦ stopped t at | passes q ↦ loop n (step s q) (at + suc (size (kind q))) (drop (size (kind q)) (body r ++ bs)) ]) f
     ∙ ap₂ (λ (m : ℕ) (l : List ℕ). loop n (step s r) (at + suc m) l) (sym len) (drop_at (body r) bs (size k) len)

@@ -10,7 +10,7 @@ use lib.Dec.{ltb, eqb}
 use lib.IntN.{ℤ, pos, negsuc}
 use lib.ListN.{length}
 use Rattle.graph.specs.Model.{Graph, million}
-use Rattle.format.specs.Record.{wrap, unwrap, split, Kind, a-task, a-channel, a-rate, a-relation, code, kind_of, widths, size, Record, task, channel, rate, relation, kind, values, body, encode, encodes, decode, record_of}
+use Rattle.format.specs.Record.{wrap, unwrap, split, Kind, a_task, a_channel, a_rate, a_relation, code, kind_of, widths, size, Record, task, channel, rate, relation, kind, values, body, encode, encodes, decode, record_of}
 use Rattle.format.specs.Reader.{signed, Holds, ranges, InRange, Bytes}
 use Rattle.format.proofs.Numbers.{Fit, join_length, join_bytes, split_join, join_split, split_fit}
 
@@ -37,10 +37,10 @@ wrap_below (negsuc n) h = omega arith
 
 pub kind_code : (k : Kind) → kind_of (code k) ≡ some k
 unfolding kind_of
-kind_code a-task = refl
-kind_code a-channel = refl
-kind_code a-rate = refl
-kind_code a-relation = refl
+kind_code a_task = refl
+kind_code a_channel = refl
+kind_code a_rate = refl
+kind_code a_relation = refl
 
 pub code_kind : (n : ℕ) (k : Kind) → kind_of n ≡ some k → n ≡ code k
 unfolding kind_of
@@ -52,27 +52,27 @@ code_kind n k e =
     is false m o p f e = f e
 
     go : (a b c d : Bool) → (a ≡ true → n ≡ 1) → (b ≡ true → n ≡ 2) → (c ≡ true → n ≡ 3) → (d ≡ true → n ≡ 4)
-        → cond a (some a-task) (cond b (some a-channel) (cond c (some a-rate) (cond d (some a-relation) none))) ≡ some k → n ≡ code k
+        → cond a (some a_task) (cond b (some a_channel) (cond c (some a_rate) (cond d (some a_relation) none))) ≡ some k → n ≡ code k
     go a b c d p q r s =
-        is a a-task _ p (is b a-channel _ q (is c a-rate _ r (is d a-relation _ s
+        is a a_task _ p (is b a_channel _ q (is c a_rate _ r (is d a_relation _ s
         (λ e. let f : ◌≡◌ {A = ℕ} 0 1 = cc in absurd (omega arith)))))
 
 pub kind_decode : (k : Kind) (bs : List ℕ) → kind (decode k bs) ≡ k
-kind_decode a-task bs = refl
-kind_decode a-channel bs = refl
-kind_decode a-rate bs = refl
-kind_decode a-relation bs = refl
+kind_decode a_task bs = refl
+kind_decode a_channel bs = refl
+kind_decode a_rate bs = refl
+kind_decode a_relation bs = refl
 
 -- ---- from bytes to a record and back
 
 pub body_decode : (k : Kind) (bs : List ℕ) → Bytes bs → length bs ≡ size k → body (decode k bs) ≡ bs
 unfolding split
-body_decode a-task bs h e = join_split (widths a-task) bs h e
-body_decode a-channel bs h e = join_split (widths a-channel) bs h e
-body_decode a-rate bs h e = join_split (widths a-rate) bs h e
-body_decode a-relation bs h e =
-    let f = split_fit (widths a-relation) bs h e in
-    rw (wrap_unwrap _ f.1.1.1.0) (join_split (widths a-relation) bs h e)
+body_decode a_task bs h e = join_split (widths a_task) bs h e
+body_decode a_channel bs h e = join_split (widths a_channel) bs h e
+body_decode a_rate bs h e = join_split (widths a_rate) bs h e
+body_decode a_relation bs h e =
+    let f = split_fit (widths a_relation) bs h e in
+    rw (wrap_unwrap _ f.1.1.1.0) (join_split (widths a_relation) bs h e)
 
 pub encode_decode : (k : Kind) (bs : List ℕ) → Bytes bs → length bs ≡ size k → encode (decode k bs) ≡ code k ∷ bs
 encode_decode k bs h e = ap₂ (λ (x : ℕ) (xs : List ℕ). x ∷ xs) (ap code (kind_decode k bs)) (body_decode k bs h e)
@@ -100,10 +100,10 @@ decode_body g r h = ap (record_of (kind r)) (split_join (widths (kind r)) (value
     back (relation r) h = rw (unwrap_wrap r.phi h.1.1.1.0)
 
 code_byte : (k : Kind) → code k < 256
-code_byte a-task = omega arith
-code_byte a-channel = omega arith
-code_byte a-rate = omega arith
-code_byte a-relation = omega arith
+code_byte a_task = omega arith
+code_byte a_channel = omega arith
+code_byte a_rate = omega arith
+code_byte a_relation = omega arith
 
 pub encode_bytes : (g : Graph) (r : Record) → InRange g r → Bytes (encode r)
 encode_bytes g r h = (code_byte (kind r), join_bytes (widths (kind r)) (values r) (fits g r h))

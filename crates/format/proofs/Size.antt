@@ -6,7 +6,7 @@ use native.Mathlib.Omega.{arith}
 use lib.ListN.{length, length-append}
 use Rattle.numbers.specs.Lists.{All}
 use Rattle.graph.specs.Model.{Link, Graph}
-use Rattle.format.specs.Record.{Kind, a-task, a-channel, a-rate, a-relation, size, Record, task, rate, relation, kind, body, encode, encodes}
+use Rattle.format.specs.Record.{Kind, a_task, a_channel, a_rate, a_relation, size, Record, task, rate, relation, kind, body, encode, encodes}
 use Rattle.format.specs.Reader.{InRange, Bytes, Reads}
 use Rattle.format.specs.Writer.{head, rates_of, rates_from, records, bytes, FewRates, Counts, Formed}
 use Rattle.numbers.proofs.Lists.{all_left, all_right, all_append}
@@ -49,10 +49,10 @@ module _ (g : Graph) where
         length_encodes a (b ++ (d ++ e)),
         length_encodes b (d ++ e),
         length_encodes d e,
-        sort_length (rate i 0 0) a-rate (λ x. refl) c.production.prefix (all_left (InRange g) a _ f),
-        sort_length (rate i 0 1) a-rate (λ x. refl) c.production.cycle (all_left (InRange g) b _ f₁),
-        sort_length (rate i 1 0) a-rate (λ x. refl) c.consumption.prefix (all_left (InRange g) d _ f₂),
-        sort_length (rate i 1 1) a-rate (λ x. refl) c.consumption.cycle (all_right (InRange g) d _ f₂),
+        sort_length (rate i 0 0) a_rate (λ x. refl) c.production.prefix (all_left (InRange g) a _ f),
+        sort_length (rate i 0 1) a_rate (λ x. refl) c.production.cycle (all_left (InRange g) b _ f₁),
+        sort_length (rate i 1 0) a_rate (λ x. refl) c.consumption.prefix (all_left (InRange g) d _ f₂),
+        sort_length (rate i 1 1) a_rate (λ x. refl) c.consumption.cycle (all_right (InRange g) d _ f₂),
       )
 
   rates_length : (cs : List Link) (i : ℕ) → All FewRates cs → All (InRange g) (rates_from i cs)
@@ -85,10 +85,10 @@ module _ (g : Graph) where
         length_encodes a (b ++ (d ++ e)),
         length_encodes b (d ++ e),
         length_encodes d e,
-        sort_length task a-task (λ x. refl) g.tasks (all_left (InRange g) a _ F.in_range),
-        sort_length head a-channel (λ x. refl) g.channels (all_left (InRange g) b _ f₁),
+        sort_length task a_task (λ x. refl) g.tasks (all_left (InRange g) a _ F.in_range),
+        sort_length head a_channel (λ x. refl) g.channels (all_left (InRange g) b _ f₁),
         rates_length g.channels 0 n.rates (all_left (InRange g) d _ f₂),
-        sort_length relation a-relation (λ x. refl) g.relations (all_right (InRange g) d _ f₂),
+        sort_length relation a_relation (λ x. refl) g.relations (all_right (InRange g) d _ f₂),
       )
 
 -- no file that the reader takes is longer

@@ -170,10 +170,10 @@ cycles_length (c ∷ cs) = omega (arith, cycles_length cs)
 abbrev pub Left : (k a b c k' a' b' c' : ℕ) → Type 0
 Left k a b c k' a' b' c' = (k < k') ⊎ ((k ≡ k') × ((a < a') ⊎ ((a ≡ a') × ((b < b') ⊎ ((b ≡ b') × (c < c'))))))
 
-pub digits-left :
+pub digits_left :
     (k a b c k' a' b' c' : ℕ) → a < 256 → b < 256 → c < 256 → a' < 256 → b' < 256 → c' < 256
     → (digits k a b c < digits k' a' b' c') ↔ Left k a b c k' a' b' c'
-digits-left k a b c k' a' b' c' ha hb hc ha' hb' hc' = (to, from)
+digits_left k a b c k' a' b' c' ha hb hc ha' hb' hc' = (to, from)
   where
     to : digits k a b c < digits k' a' b' c' → Left k a b c k' a' b' c'
     to h =

@@ -45,29 +45,29 @@ total (w ∷ ws) = w + total ws
 
 -- the four kinds
 pub data Kind : Type 0 where
-  a-task a-channel a-rate a-relation : Kind
+  a_task a_channel a_rate a_relation : Kind
 
 -- the byte of each kind
 abbrev pub code : Kind → ℕ
-code a-task = 1
-code a-channel = 2
-code a-rate = 3
-code a-relation = 4
+code a_task = 1
+code a_channel = 2
+code a_rate = 3
+code a_relation = 4
 
 -- the kind of a byte, if it has one
 unfoldable pub kind_of : ℕ → Option Kind
 kind_of k =
-    cond (eqb k 1) (some a-task)
-    (cond (eqb k 2) (some a-channel)
-    (cond (eqb k 3) (some a-rate)
-    (cond (eqb k 4) (some a-relation) none)))
+    cond (eqb k 1) (some a_task)
+    (cond (eqb k 2) (some a_channel)
+    (cond (eqb k 3) (some a_rate)
+    (cond (eqb k 4) (some a_relation) none)))
 
 -- the widths of the fields in order: the table of document 01
 abbrev pub widths : Kind → List ℕ
-widths a-task = 4 ∷ 4 ∷ 4 ∷ 4 ∷ 1 ∷ []
-widths a-channel = 1 ∷ 1 ∷ 4 ∷ 4 ∷ []
-widths a-rate = 1 ∷ 1 ∷ 1 ∷ 2 ∷ []
-widths a-relation = 1 ∷ 1 ∷ 4 ∷ 4 ∷ 4 ∷ []
+widths a_task = 4 ∷ 4 ∷ 4 ∷ 4 ∷ 1 ∷ []
+widths a_channel = 1 ∷ 1 ∷ 4 ∷ 4 ∷ []
+widths a_rate = 1 ∷ 1 ∷ 1 ∷ 2 ∷ []
+widths a_relation = 1 ∷ 1 ∷ 4 ∷ 4 ∷ 4 ∷ []
 
 -- the length of a body
 abbrev pub size : Kind → ℕ
@@ -84,10 +84,10 @@ pub data Record : Type 0 where
 
 -- a record's kind
 abbrev pub kind : Record → Kind
-kind (task t) = a-task
-kind (channel p c i s) = a-channel
-kind (rate c s p x) = a-rate
-kind (relation r) = a-relation
+kind (task t) = a_task
+kind (channel p c i s) = a_channel
+kind (rate c s p x) = a_rate
+kind (relation r) = a_relation
 
 -- a record's fields in order
 abbrev pub values : Record → List ℕ
@@ -102,11 +102,11 @@ field i vs = get_or vs i 0
 
 -- the record of a kind and its fields
 abbrev pub record_of : Kind → List ℕ → Record
-record_of a-task vs =
+record_of a_task vs =
     task (record { period = field 0 vs; offset = field 1 vs; deadline = field 2 vs; worst = field 3 vs; priority = field 4 vs })
-record_of a-channel vs = channel (field 0 vs) (field 1 vs) (field 2 vs) (field 3 vs)
-record_of a-rate vs = rate (field 0 vs) (field 1 vs) (field 2 vs) (field 3 vs)
-record_of a-relation vs =
+record_of a_channel vs = channel (field 0 vs) (field 1 vs) (field 2 vs) (field 3 vs)
+record_of a_rate vs = rate (field 0 vs) (field 1 vs) (field 2 vs) (field 3 vs)
+record_of a_relation vs =
     relation (record { p = field 0 vs; q = field 1 vs; n = field 2 vs; phi = unwrap (field 3 vs); d = field 4 vs })
 
 -- a record's bytes behind its kind

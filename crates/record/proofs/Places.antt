@@ -8,7 +8,7 @@ use native.Mathlib.Numerals.{add-one}
 use native.Mathlib.Omega.{arith}
 use lib.ListN.{length, take, drop, length-drop}
 use lib.Seq.{length-take-le}
-use Rattle.format.specs.Record.{Kind, a-task, a-channel, a-rate, a-relation, size, decode}
+use Rattle.format.specs.Record.{Kind, a_task, a_channel, a_rate, a_relation, size, decode}
 use Rattle.format.specs.Reader.{State}
 use Rattle.record.specs.declared.Kind.{Kind as Named}
 use Rattle.record.specs.declared.Kind.TheVariants.{Task, Channel, Rate, Relation, Unknown as Nameless}
@@ -20,19 +20,19 @@ use Rattle.record.specs.Fronts.{Judges, TellsOf}
 
 -- each name is that of one kind
 unnamed : Named → Option Kind
-unnamed Task = some a-task
-unnamed Channel = some a-channel
-unnamed Rate = some a-rate
-unnamed Relation = some a-relation
+unnamed Task = some a_task
+unnamed Channel = some a_channel
+unnamed Rate = some a_rate
+unnamed Relation = some a_relation
 unnamed Nameless = none
 
 unnamed_named : (o : Option Kind) → unnamed (named o) ≡ o
 unfolding unnamed
 unnamed_named none = refl
-unnamed_named (some a-task) = refl
-unnamed_named (some a-channel) = refl
-unnamed_named (some a-rate) = refl
-unnamed_named (some a-relation) = refl
+unnamed_named (some a_task) = refl
+unnamed_named (some a_channel) = refl
+unnamed_named (some a_rate) = refl
+unnamed_named (some a_relation) = refl
 
 pub named_one : (o p : Option Kind) → named o ≡ named p → p ≡ o
 named_one o p e = sym (unnamed_named p) ∙ ap unnamed (sym e) ∙ unnamed_named o

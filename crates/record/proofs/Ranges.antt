@@ -8,11 +8,11 @@ use Rattle.format.specs.Reader.{within, names, signed, Holds, ranges, InRange}
 use Rattle.record.specs.Fronts.{Decides}
 
 -- all but the phase is in range, so the phase decides
-pub phase-decides :
+pub phase_decides :
     (g : Graph) (l : Relation) (b : Bool)
     → Holds (names l.p (length g.tasks)) → Holds (names l.q (length g.tasks))
     → Holds (within 1 l.n 1000000) → Holds (within 1 l.d 1000000)
     → Decides b (Holds (signed l.phi 1000000)) → Decides b (InRange g (relation l))
 unfolding ranges
-phase-decides g l true hp hq hn hd h = (hp, (hq, (hn, (h, (hd, tt)))))
-phase-decides g l false hp hq hn hd h = λ r. h r.1.1.1.0
+phase_decides g l true hp hq hn hd h = (hp, (hq, (hn, (h, (hd, tt)))))
+phase_decides g l false hp hq hn hd h = λ r. h r.1.1.1.0

@@ -1,7 +1,7 @@
 -- What kinds and fields stand for. Assumes nothing.
 use Rattle.std.proofs.Math.Option.{Option, none, some}
 use Rattle.std.specs.Prelude.{ℕ}
-use Rattle.format.specs.Record.{Kind, a-task, a-channel, a-rate, a-relation, size, Record, channel, rate}
+use Rattle.format.specs.Record.{Kind, a_task, a_channel, a_rate, a_relation, size, Record, channel, rate}
 use Rattle.record.specs.declared.Kind.{Kind as Named}
 use Rattle.record.specs.declared.Kind.TheVariants.{Task, Channel, Rate, Relation, Unknown}
 use Rattle.record.specs.declared.Head.{Head}
@@ -10,10 +10,10 @@ use Rattle.record.specs.declared.Entry.{Entry}
 -- what a kind byte says
 abbrev pub named : Option Kind → Named
 named none = Unknown
-named (some a-task) = Task
-named (some a-channel) = Channel
-named (some a-rate) = Rate
-named (some a-relation) = Relation
+named (some a_task) = Task
+named (some a_channel) = Channel
+named (some a_rate) = Rate
+named (some a_relation) = Relation
 
 -- the length of the body behind it, 0 of an unknown kind
 abbrev pub length_of : Option Kind → ℕ

@@ -5,7 +5,7 @@ ghost use Rattle.std.specs.Prelude.{◌≡◌, ◌+◌, ◌≤◌, ◌<◌, leng
 ghost use Rattle.graph.specs.Model.{Graph as Model};
 ghost use Rattle.format.specs.Reader.{Holds, signed, InRange, State};
 ghost use Rattle.record.specs.Fronts.{Decides, Counts, Judges, Tells};
-ghost use Rattle.format.specs.Record.{number, unwrap, digits, kind_of, decode, a-task, a-channel, a-rate, a-relation, task, relation};
+ghost use Rattle.format.specs.Record.{number, unwrap, digits, kind_of, decode, a_task, a_channel, a_rate, a_relation, task, relation};
 ghost use Rattle.record.specs.Heads.{named, length_of, headed, entered};
 
 use graph::{Graph, Relation, Task};
@@ -135,7 +135,7 @@ pub fn rank_of(kind: u8, a: u8, b: u8, c: u8) -> u32
 // The fields of a body of each kind.
 fn task_of(bytes: &[u8]) -> Task
     requires { length bytes.now ≡ 17 }
-    ensures { task result ≡ decode a-task bytes.now }
+    ensures { task result ≡ decode a_task bytes.now }
 {
     Task {
         period: four(bytes, 0),
@@ -148,7 +148,7 @@ fn task_of(bytes: &[u8]) -> Task
 
 fn head_of(bytes: &[u8]) -> Head
     requires { length bytes.now ≡ 10 }
-    ensures { headed result ≡ decode a-channel bytes.now }
+    ensures { headed result ≡ decode a_channel bytes.now }
 {
     Head {
         producer: bytes[0],
@@ -160,7 +160,7 @@ fn head_of(bytes: &[u8]) -> Head
 
 fn entry_of(bytes: &[u8]) -> Entry
     requires { length bytes.now ≡ 5 }
-    ensures { entered result ≡ decode a-rate bytes.now }
+    ensures { entered result ≡ decode a_rate bytes.now }
 {
     Entry {
         channel: bytes[0],
@@ -172,7 +172,7 @@ fn entry_of(bytes: &[u8]) -> Entry
 
 fn relation_of(bytes: &[u8]) -> Relation
     requires { length bytes.now ≡ 14 }
-    ensures { relation result ≡ decode a-relation bytes.now }
+    ensures { relation result ≡ decode a_relation bytes.now }
 {
     Relation {
         p: bytes[0],
@@ -280,7 +280,7 @@ fn relation_fits(l: Relation, ntasks: usize) -> bool
 // The tests of a body of each kind, in their order.
 fn task_front(bytes: &[u8], floor: u32, ntasks: usize) -> Front
     requires { length bytes.now ≡ 17 }
-    ensures { (s : State) → s.floor ≡ floor → length s.graph.tasks ≡ ntasks → Judges s (decode a-task bytes.now) result }
+    ensures { (s : State) → s.floor ≡ floor → length s.graph.tasks ≡ ntasks → Judges s (decode a_task bytes.now) result }
 {
     if rank_of(1, 0, 0, 0) < floor {
         return Front::Stopped(Test::Down);
@@ -297,7 +297,7 @@ fn task_front(bytes: &[u8], floor: u32, ntasks: usize) -> Front
 
 fn channel_front(bytes: &[u8], floor: u32, ntasks: usize, nchannels: usize) -> Front
     requires { length bytes.now ≡ 10 }
-    ensures { (s : State) → s.floor ≡ floor → length s.graph.tasks ≡ ntasks → length s.graph.channels ≡ nchannels → Judges s (decode a-channel bytes.now) result }
+    ensures { (s : State) → s.floor ≡ floor → length s.graph.tasks ≡ ntasks → length s.graph.channels ≡ nchannels → Judges s (decode a_channel bytes.now) result }
 {
     if rank_of(2, 0, 0, 0) < floor {
         return Front::Stopped(Test::Down);
@@ -314,7 +314,7 @@ fn channel_front(bytes: &[u8], floor: u32, ntasks: usize, nchannels: usize) -> F
 
 fn rate_front(bytes: &[u8], floor: u32, nchannels: usize) -> Front
     requires { length bytes.now ≡ 5 }
-    ensures { (s : State) → s.floor ≡ floor → length s.graph.channels ≡ nchannels → Judges s (decode a-rate bytes.now) result }
+    ensures { (s : State) → s.floor ≡ floor → length s.graph.channels ≡ nchannels → Judges s (decode a_rate bytes.now) result }
 {
     let e = entry_of(bytes);
     if rank_of(3, e.channel, e.side, e.part) < floor {
@@ -328,7 +328,7 @@ fn rate_front(bytes: &[u8], floor: u32, nchannels: usize) -> Front
 
 fn relation_front(bytes: &[u8], floor: u32, ntasks: usize, nrelations: usize) -> Front
     requires { length bytes.now ≡ 14 }
-    ensures { (s : State) → s.floor ≡ floor → length s.graph.tasks ≡ ntasks → length s.graph.relations ≡ nrelations → Judges s (decode a-relation bytes.now) result }
+    ensures { (s : State) → s.floor ≡ floor → length s.graph.tasks ≡ ntasks → length s.graph.relations ≡ nrelations → Judges s (decode a_relation bytes.now) result }
 {
     if rank_of(4, 0, 0, 0) < floor {
         return Front::Stopped(Test::Down);

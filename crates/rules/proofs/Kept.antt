@@ -158,17 +158,17 @@ module _ (g : Graph) (ok : Usable g) (room : ℕ) (none : (s : Reply) → ¬ Ref
         let j = ok.ends c l in
         let p = sound_producer g room ok c l in
         let q = sound_consumer g room ok c l in
-        let here-p : t < release (channel g c).producer (suc t) = release_late (channel g c).producer p (suc t) in
-        let here-q : t < release (channel g c).consumer (suc t) = release_late (channel g c).consumer q (suc t) in
-        let puts = together (link g c).producer j.producer_known (link g c).production (e.puts c) (e.putting c l) t a ha (suc t) here-p in
-        let takes = together (link g c).consumer j.consumer_known (link g c).consumption (e.takes c) (e.taking c l) t b hb (suc t) here-q in
+        let here_p : t < release (channel g c).producer (suc t) = release_late (channel g c).producer p (suc t) in
+        let here_q : t < release (channel g c).consumer (suc t) = release_late (channel g c).consumer q (suc t) in
+        let puts = together (link g c).producer j.producer_known (link g c).production (e.puts c) (e.putting c l) t a ha (suc t) here_p in
+        let takes = together (link g c).consumer j.consumer_known (link g c).consumption (e.takes c) (e.taking c l) t b hb (suc t) here_q in
         let stay =
         parts_stay (channel g c) p q (passing c l) t
         (moved (link g c).producer j.producer_known (link g c).production (e.puts c) (e.putting c l) t a ha)
         (moved (link g c).consumer j.consumer_known (link g c).consumption (e.takes c) (e.taking c l) t b hb)
         (part (link g c).producer j.producer_known (link g c).production (e.puts c) (e.putting c l) t a ha)
         (part (link g c).consumer j.consumer_known (link g c).consumption (e.takes c) (e.taking c l) t b hb)
-        (suc t) (suc t) here-p here-q in
+        (suc t) (suc t) here_p here_q in
         omega arith
 
 -- demand 3

@@ -30,11 +30,11 @@ use Rattle.rules.proofs.Report.{answers}
 -- ---- figures
 
 -- Where all tasks are released together and each job runs its worst, no figures are kept that are smaller than those reported.
-pub least-figures :
+pub least_figures :
     (g : Graph) → Usable g → (room n : ℕ) (l : List ℕ) → Answers g room (Accepted n) l → ((i : ℕ) → i < count g → (task g i).offset ≡ 0)
     → (e : Execution g) → ((i k : ℕ) → i < count g → e.needs i k ≡ cost g i)
     → (l' : List ℕ) → Kept g l' e → (i : ℕ) → i < count g → get_or l i 0 ≤ get_or l' i 0
-least-figures g ok room n l a together e worst l' k i h =
+least_figures g ok room n l a together e worst l' k i h =
     let at : (task g i).offset + 0 * (task g i).period + get_or l' i 0 ≡ get_or l' i 0 = omega (arith, together i h) in
     met (machine g) 0 e.needs e.runs e.legal (λ j m. let t = ok.timed j m.counted in omega arith) (λ j m. together j m.counted) (λ j x m. worst j x m.counted) i
     (record { counted = h; bound = refl }) (get_or l i 0) (a.reports.figures i (omega (arith, a.reports.size))) (get_or l' i 0)
@@ -95,7 +95,7 @@ module _ (initial size : ℕ) (e : Execution (looped initial size)) where
       go (job i k) f =
           let same : i ≡ 0 = omega (arith, f.ready.mine.counted) in
           let early : 0 + k * 5 ≤ 0 = subst (λ x. (task g x).offset + k * (task g x).period ≤ 0) same f.ready.released in
-          let first-job : k ≡ 0 = omega arith in
+          let first_job : k ≡ 0 = omega arith in
           cc
 
   -- a side moves its one token in tick 0

@@ -7,7 +7,7 @@ use mir.Facts.{to_z-of_z}
 use borrow.Author.Rules.{rules}
 use Rattle.format.specs.Reader.{Holds, signed, ranges}
 use Rattle.record.specs.Fronts.{Decides}
-use Rattle.record.proofs.Ranges.{phase-decides}
+use Rattle.record.proofs.Ranges.{phase_decides}
 use Rattle.record.proofs.relation_fits.Goals as goal
 
 pub returns-then-ntasks-l : goal.returns-then-ntasks-l
@@ -39,5 +39,5 @@ returns c =
     λ g e.
     let b = c.phase_fits.result in
     let f : SFits w32 c.args.l.phi = search rules in
-    phase-decides g c.args.l b (omega (arith, c.well_formed)) (omega (arith, c.well_formed)) (omega arith) (omega arith)
+    phase_decides g c.args.l b (omega (arith, c.well_formed)) (omega (arith, c.well_formed)) (omega arith) (omega arith)
     (subst (λ z. Decides b (Holds (signed z 1000000))) (to_z-of_z {w = w32} f) c.phase_fits.ensures)

@@ -27,7 +27,7 @@ pub loop-j-preserved : goal.loop-j-preserved
 loop-j-preserved c =
     let a = c.args in
     let l = c.loop-j in
-    let length-is : length a.tasks ≡ 32 = search rules in
+    let length_is : length a.tasks ≡ 32 = search rules in
     let next : l.j < a.n = c.loop-j-test.true in
     elim c.if-interferes.branch [
       | then-interferes w ↦
@@ -45,7 +45,7 @@ pub returns : goal.returns
 returns c =
     let a = c.args in
     let l = c.loop-j in
-    let length-is : length a.tasks ≡ 32 = search rules in
+    let length_is : length a.tasks ≡ 32 = search rules in
     record {
       count_le_max_tasks = omega (arith, l.invariant.few, l.invariant.passed);
       cells = l.invariant.cells;
