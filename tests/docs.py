@@ -45,7 +45,10 @@ def missing(doc):
     for names, crate, part, file in re.findall(place, words):
         path = os.path.join(ROOT, "crates", crate, part, file + ".antt")
         if not os.path.exists(path):
-            continue  # told below
+            # (a missing file of a crate of ours is told below)
+            if crate not in CRATES or file.startswith("declared/"):
+                yield "%s/%s/%s" % (crate, part, file)
+            continue
         where = text(path)
         for name in re.findall(r"`([^`]+)`", names):
             if "::" not in name and not defined(name, where):
