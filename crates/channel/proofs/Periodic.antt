@@ -31,7 +31,7 @@ module _ (t g : Side) (okt : Sound t) (okg : Sound g) where
         ∙ ap (total g) (ended_later g okg (release t k) (b * length g.cycle) (omega (arith, past k h)))
         ∙ turns g okg (ended g (release t k)) b (omega (arith, (ended_iff g okg (length g.prefix) (release t k)).1 (past k h)))
 
-  module _ (L : ℕ) (L-pos : 0 < L) (dt : span t ∣ L) (dg : span g ∣ L) (bal : Balanced t g) (stock : ℕ) where
+  module _ (L : ℕ) (l_pos : 0 < L) (dt : span t ∣ L) (dg : span g ∣ L) (bal : Balanced t g) (stock : ℕ) where
     same_l : L / span t * span t ≡ L / span g * span g
     same_l = div-mul_cancel (span t) dt ∙ sym (div-mul_cancel (span g) dg)
 
@@ -39,7 +39,7 @@ module _ (t g : Side) (okt : Sound t) (okg : Sound g) where
     in_jobs = div-eq_of_eq-mul_left (omega arith) (omega (arith, div-mul_cancel (span t) dt))
 
     same_tokens : L / span t * turn t ≡ L / span g * turn g
-    same_tokens = eq_of_mul-eq-mul_left L L-pos (L / span t * turn t) (L / span g * turn g)
+    same_tokens = eq_of_mul-eq-mul_left L l_pos (L / span t * turn t) (L / span g * turn g)
         (ap (λ x. x * (L / span t * turn t)) (sym (div-mul_cancel (span g) dg))
         ∙ omega (arith, ap (λ x. L / span t * (L / span g) * x) bal)
         ∙ ap (λ x. x * (L / span g * turn g)) (div-mul_cancel (span t) dt))

@@ -90,14 +90,14 @@ module _ (t g : Side) (stock L : ℕ) (ok : Repeats t g stock L) where
 
   -- those before `first`, where no case is short
   pub reach_first : (b : Bool) → b ≡ some_case (step L t g) t g stock → b ≡ false → (n : ℕ) → n ≡ first t g + 0 / t.period → Reaches t g stock n
-  reach_first b eb no-case n e =
+  reach_first b eb no_case n e =
       let is_first : n ≡ first t g = omega (arith, e, zero-div t.period) in
       record {
         decides = λ f k.
             cases (first t g) k
             (λ h.
             (cases_decide t g (sound ok.taker) (sound ok.giver) ok.balanced L ok.least stock).1
-            (cases_no (step L t g) t g stock (sym eb ∙ no-case)) k h)
+            (cases_no (step L t g) t g stock (sym eb ∙ no_case)) k h)
             (λ h. f k (omega (arith, is_first)));
         searchable = searchable n (omega (arith, is_first));
       }

@@ -71,10 +71,10 @@ module _ (ts : List Task) (n : ℕ) (few : n ≤ length ts) (room : ℕ) where
   late i h = record { so = λ g e z. later_finds g room 12 13 (Late i) (omega arith) (lates (At i) h g e z) }
 
   -- with no task late, the load decides
-  module _ (none-late : Of (take n ts) (λ g. Finds (Misses g) n Nothing)) (b : Bool) (is : Of (take n ts) (λ g. b ≡ ltb 1_000_000 (load g))) where
+  module _ (none_late : Of (take n ts) (λ g. Finds (Misses g) n Nothing)) (b : Bool) (is : Of (take n ts) (λ g. b ≡ ltb 1_000_000 (load g))) where
     loaded : (g : Graph) → Has g → Earliest g room (Upto 11) none → Earliest g room (Upto 13) (when b Overloaded)
     loaded g e z =
-        next_finds g room 12 none (when b Overloaded) (lates Nothing none-late g e z)
+        next_finds g room 12 none (when b Overloaded) (lates Nothing none_late g e z)
         (subst (λ x. Earliest g room (In 12) (when x Overloaded)) (sym (is g e)) (load_finds g room))
 
     pub heavy : b ≡ true → Behind 11 13 room Has (Refused Overloaded)

@@ -19,13 +19,7 @@ fn tell(reply: Reply, place: &mut u64, job: &mut u64) -> u32
 }
 
 // The reply to a file, and R of each task in the report where it is accepted.
-#[unsafe(no_mangle)]
-pub extern "C" fn ghadibosh_check(
-    file: &[u8],
-    report: &mut [u32],
-    place: &mut u64,
-    job: &mut u64,
-) -> u32
+pub fn ghadibosh_check(file: &[u8], report: &mut [u32], place: &mut u64, job: &mut u64) -> u32
     ensures { Checked file.now report.old result place.new job.new report.new }
 {
     let reply = checker::check_file(file, report);
@@ -47,13 +41,7 @@ fn rewrite(reading: Reading, out: &mut [u8]) -> Reply
 }
 
 // The file, read and written back into the output.
-#[unsafe(no_mangle)]
-pub extern "C" fn ghadibosh_rewrite(
-    file: &[u8],
-    out: &mut [u8],
-    place: &mut u64,
-    job: &mut u64,
-) -> u32
+pub fn ghadibosh_rewrite(file: &[u8], out: &mut [u8], place: &mut u64, job: &mut u64) -> u32
     ensures { Rewritten file.now out.old result place.new job.new out.new }
 {
     let reading = reader::read(file);
@@ -62,8 +50,7 @@ pub extern "C" fn ghadibosh_rewrite(
 }
 
 // The reader's reply to a file.
-#[unsafe(no_mangle)]
-pub extern "C" fn ghadibosh_read(file: &[u8], place: &mut u64, job: &mut u64) -> u32
+pub fn ghadibosh_read(file: &[u8], place: &mut u64, job: &mut u64) -> u32
     ensures { Read file.now result place.new job.new }
 {
     let reading = reader::read(file);

@@ -48,14 +48,14 @@ module _ {A : Type 0} (f : A → Record) (G : List A → Graph) (n K L : ℕ) (l
     (rank_is : (x : A) → rank (f x) ≡ K) (limit_is : (x : A) → limit (f x) ≡ L)
     (count_is : (done : List A) (x : A) → count (G done) (f x) ≡ length done)
     (add_is : (done : List A) (x : A) → add (G done) (f x) ≡ G (done ++ (x ∷ [])))
-    (P : A → Type 0) (range-is : (done : List A) (x : A) → P x → InRange (G done) (f x)) where
+    (P : A → Type 0) (range_is : (done : List A) (x : A) → P x → InRange (G done) (f x)) where
   sort_from : (xs done : List A) (m : ℕ) → m ≤ K → All P xs → length done + length xs ≤ L → Goes (G done) m (map f xs) (G (done ++ xs)) K
   sort_from [] done m hm p l = λ z hz. (tt, ap G (sym (append-nil done)), omega arith)
   sort_from (x ∷ xs) done m hm p l =
       subst (λ d. Goes (G done) m (f x ∷ map f xs) (G d) K) (append_assoc done (x ∷ []) xs)
       (goes_on (G done) m (f x ∷ []) (G (done ++ (x ∷ []))) K (map f xs) (G (done ++ (x ∷ []) ++ xs)) K
       (λ z hz. (
-        (record { in_order = omega (arith, rank_is x); in_range = range-is done x p.0; room = omega (arith, count_is done x, limit_is x) }, tt),
+        (record { in_order = omega (arith, rank_is x); in_range = range_is done x p.0; room = omega (arith, count_is done x, limit_is x) }, tt),
         add_is done x,
         omega (arith, rank_is x),
       ))

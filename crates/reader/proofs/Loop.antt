@@ -179,9 +179,9 @@ module _ (file : List ℕ) (m : Memory) (floor at : ℕ) (S : Stands file m floo
 
         pub rate_full : ¬ Roomy here e → Answers file (stopped full at)
         unfolding count
-        rate_full over-full =
+        rate_full over_full =
             let (k, known, long, (q, order, range)) = known_whole s bs (Rate e) (kind_of (get_or file at 0)) tt T in
-            let over : limit (entered e) ≤ count g (entered e) = omega (arith, over-full) in
+            let over : limit (entered e) ≤ count g (entered e) = omega (arith, over_full) in
             judged_stop k known long Full (order, range, subst (λ r. limit r ≤ count g r) (sym q) over)
 
         pub rate_next : Roomy here e → (to : ℕ) → to ≡ digits 3 e.channel e.side e.part

@@ -50,8 +50,8 @@ module _ (g : Graph) (room : ℕ) where
   pub when_finds : (D : Reply → Type 0) (b : Bool) (r : Reply) → D r → (b ≡ true → Refuses g room r)
       → ((s : Reply) → D s → Refuses g room s → (s ≡ r) × (b ≡ true))
       → Earliest g room D (when b r)
-  when_finds D true r d yes-it only = (d, yes-it refl, λ s ds h x. irreflexive (key r) (subst (λ y. Earlier y r) (only s ds h).0 x))
-  when_finds D false r d yes-it only = λ s ds h. let e = (only s ds h).1 in let z : ◌≡◌ {A = ℕ} 0 1 = cc in absurd (omega arith)
+  when_finds D true r d yes_it only = (d, yes_it refl, λ s ds h x. irreflexive (key r) (subst (λ y. Earlier y r) (only s ds h).0 x))
+  when_finds D false r d yes_it only = λ s ds h. let e = (only s ds h).1 in let z : ◌≡◌ {A = ℕ} 0 1 = cc in absurd (omega arith)
 
   -- a search that finds nothing leaves it to the next
   or_finds : (D E F : Reply → Type 0) → ((s : Reply) → F s → D s ⊎ E s) → ((s : Reply) → D s → F s) → ((s : Reply) → E s → F s)

@@ -70,7 +70,7 @@ module _ (g : Graph) (ok : Usable g) (room : ℕ) (none : (s : Reply) → ¬ Ref
 
     -- ---- what the jobs of task i have moved inside tick t, a of its tokens being moved
 
-    module _ (i : ℕ) (l : i < count g) (r : Rates) (moves : ℕ → ℕ) (ok-moves : Moves g e.needs e.runs i r moves) (t a : ℕ) (some-moved : a ≤ moves t) where
+    module _ (i : ℕ) (l : i < count g) (r : Rates) (moves : ℕ → ℕ) (ok_moves : Moves g e.needs e.runs i r moves) (t a : ℕ) (some_moved : a ≤ moves t) where
       abbrev upto : ℕ → ℕ → ℕ
       upto n k = sum (λ s. tick i k (e.runs s) * moves s) n
 
@@ -87,7 +87,7 @@ module _ (g : Graph) (ok : Usable g) (room : ℕ) (none : (s : Reply) → ¬ Ref
       -- all of the rate, once it is done
       all_of : (k n : ℕ) → release (side g i r) k + response g i ≤ n → upto n k ≡ rate (side g i r) k
       all_of k n h =
-          ok-moves.whole k n
+          ok_moves.whole k n
           (omega (arith, (in_time i k l).finished, ran_mono (machine g) 0 e.needs e.runs e.legal i k h, ran_le (machine g) 0 e.needs e.runs e.legal i k n))
 
       part : Part (side g i r) t moved
@@ -97,7 +97,7 @@ module _ (g : Graph) (ok : Usable g) (room : ℕ) (none : (s : Reply) → ¬ Ref
                 let n : ℕ = suc t + (release (side g i r) k + response g i) in
                 omega (
                   arith,
-                  mul-le-mul_left (tick i k (e.runs t)) some-moved,
+                  mul-le-mul_left (tick i k (e.runs t)) some_moved,
                   sum_suc (λ s. tick i k (e.runs s) * moves s) t,
                   sum_le (λ s. tick i k (e.runs s) * moves s) (suc t) n (omega arith),
                   all_of k n (omega arith),
@@ -123,7 +123,7 @@ module _ (g : Graph) (ok : Usable g) (room : ℕ) (none : (s : Reply) → ¬ Ref
         where
           still : ((k : ℕ) → ¬ (e.runs s ≡ job i k)) → sum (λ k. tick i k (e.runs s) * x) n ≡ x
           still none_runs =
-              omega (arith, ok-moves.running s none_runs, sum_nought (λ k. tick i k (e.runs s) * x) n (λ k _. nothing_in k s x (none_runs k)))
+              omega (arith, ok_moves.running s none_runs, sum_nought (λ k. tick i k (e.runs s) * x) n (λ k _. nothing_in k s x (none_runs k)))
 
           go : (slot : Slot) → e.runs s ≡ slot → sum (λ k. tick i k (e.runs s) * x) n ≡ x
           go idle q = still (λ k q'. let z : ◌≡◌ {A = ℕ} 0 1 = cc in omega arith)
@@ -148,7 +148,7 @@ module _ (g : Graph) (ok : Usable g) (room : ℕ) (none : (s : Reply) → ¬ Ref
             sum_plus (upto t) (λ k. tick i k (e.runs t) * a) n,
             sum_swap (λ k s. tick i k (e.runs s) * moves s) n t,
             sum_ext (λ s. sum (λ k. tick i k (e.runs s) * moves s) n) moves t (λ s b. one_moves n s (moves s) h (omega arith) (le_refl (moves s))),
-            one_moves n t a h (le_refl t) some-moved,
+            one_moves n t a h (le_refl t) some_moved,
           )
 
     -- ---- both sides of a channel
