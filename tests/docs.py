@@ -1,8 +1,8 @@
 #!/usr/bin/env python3
-"""Checks that what the documents cite is there: functions `crate::name`, edits `crate/label`, names in
-front of a place as in `name` (crate/specs/File), which has to define them, `name` in or (a/path), files
-as crate/specs/File or `Rattle.crate.specs.File`, other files and links. Prints what is missing; exit
-status 1 if any."""
+"""Checks that what the documents cite is there: functions `crate::name` and `crate::Type::name`, edits
+`crate/label`, names in front of a place as in `name` (crate/specs/File), which has to define them, `name`
+in or (a/path), files as crate/specs/File or `Rattle.crate.specs.File`, other files and links. Prints what
+is missing; exit status 1 if any. docs/DESIGN-PASS.md is left out: it sets what went beside what came."""
 import glob
 import os
 import re
@@ -18,7 +18,8 @@ def text(path):
 
 
 def source(crate):
-    return "".join(text(p) for p in glob.glob(os.path.join(ROOT, "crates", crate, "src", "*.rt")))
+    code = "".join(text(p) for p in glob.glob(os.path.join(ROOT, "crates", crate, "src", "*.rt")))
+    return re.sub(r"//[^\n]*", "", code)
 
 
 def has(name, where):
@@ -33,9 +34,10 @@ def defined(name, where):
 
 def missing(doc):
     words = text(doc)
-    for crate, name in re.findall(r"`(\w+)::([A-Za-z_]+)(?:\([^`]*\))?`", words):
-        if crate in CRATES and not has(name, source(crate)):
-            yield "%s::%s" % (crate, name)
+    for crate, names in re.findall(r"`(\w+)((?:::\w+)+)(?:\([^`]*\))?`", words):
+        for name in names.split("::")[1:]:
+            if crate in CRATES and not has(name, source(crate)):
+                yield "%s%s" % (crate, names)
     for crate, label in re.findall(r"`(\w+)/([\w-]+)`", words):
         if crate in CRATES and not os.path.exists(os.path.join(ROOT, "crates", crate, "must-fail", label + ".edit")):
             yield "%s/%s" % (crate, label)
@@ -76,6 +78,7 @@ def missing(doc):
 def main():
     bad = 0
     docs = sorted(glob.glob(os.path.join(ROOT, "docs", "**", "*.md"), recursive=True)) + [os.path.join(ROOT, "README.md")]
+    docs = [doc for doc in docs if os.path.basename(doc) != "DESIGN-PASS.md"]
     for doc in docs:
         for what in missing(doc):
             bad += 1

@@ -1,7 +1,6 @@
 -- A sample through the checker's contract. Assumes nothing.
 use Rattle.std.specs.Prelude.{◌≡◌, List, ◌++◌, length, drop, ℕ}
-use Rattle.reply.specs.declared.Reply.{Reply}
-use Rattle.reply.specs.Reply.{numbered}
+use Rattle.reply.specs.Reply.{Reply, numbered}
 use Rattle.checker.specs.Check.{ChecksFile}
 use Rattle.samples.specs.Samples.{Sample}
 

@@ -1,14 +1,15 @@
 -- The search by stretches and cases says the first short job of all jobs without end, or that none is. Assumes nothing.
 use mathlib.Core.Path.{◌≡◌, refl, sym, ap, ◌∙◌, subst}
-use mathlib.Core.Bool.{Bool, true, false, cond, ◌&&◌, false≢true}
+use mathlib.Core.Bool.{Bool, true, false, cond, false≢true}
 use mathlib.Core.Logic.{◌↔◌}
-use mathlib.Core.Option.{Option, none, some}
-use Prim.Native.Nat.{ℕ, suc, ◌+◌, ◌*◌, ◌≤◌, ◌<◌}
+use Prim.Native.Nat.{ℕ, suc, ◌+◌, ◌*◌, ◌<◌}
 use native.Mathlib.Nat.{dvd_trans, dvd-mul_right}
 use native.Mathlib.Omega.{arith}
 use borrow.Author.Tests.{ltb-true, ltb-false, leb-true, lt-ltb, le-ltb, le-leb}
 use lib.Dec.{leb, ltb}
 use lib.ListN.{length}
+use Rattle.std.specs.Prelude.{Option, Some, None}
+use Rattle.std.proofs.lemmas.Bool.{and_parts}
 use Rattle.numbers.specs.Numbers.{least}
 use Rattle.numbers.specs.Lists.{First}
 use Rattle.channel.specs.Side.{Side, Sound, release, end, total, turn, span, Short, first, jobs}
@@ -42,13 +43,6 @@ no_some p n no_one =
 
 -- ---- the cases
 
-both : (a b c d : ℕ) → (leb a b && ltb c d) ≡ true → (a ≤ b) × (c < d)
-both a b c d = go (leb a b) refl
-  where
-    go : (x : Bool) → leb a b ≡ x → (x && ltb c d) ≡ true → (a ≤ b) × (c < d)
-    go true l e = (leb-true a b l, ltb-true c d e)
-    go false l e = absurd (false≢true e)
-
 module _ (h : ℕ) (t g : Side) (stock : ℕ) where
   -- the two numbers that a case compares
   abbrev has : ℕ → ℕ → ℕ
@@ -62,8 +56,8 @@ module _ (h : ℕ) (t g : Side) (stock : ℕ) where
   case_yes a b e =
       let j : ℕ = length t.prefix + a in
       let m : ℕ = length g.prefix + b in
-      let r = both (gap h t g j m) g.period (has j m) (wants j m) e in
-      record { meet = r.0; lacks = r.1 }
+      let r = and_parts (leb (gap h t g j m) g.period) (ltb (has j m) (wants j m)) e in
+      record { meet = leb-true (gap h t g j m) g.period r.0; lacks = ltb-true (has j m) (wants j m) r.1 }
 
   pub case_no : (a b : ℕ) → short_case h t g stock a b ≡ false → ¬ ShortCase h t g stock a b
   unfolding short_at
@@ -88,11 +82,11 @@ module _ (h : ℕ) (t g : Side) (stock : ℕ) where
 
 -- one answer is true of a channel
 pub says_one : (t g : Side) (stock : ℕ) (r s : Option ℕ) → Says t g stock r → Says t g stock s → r ≡ s
-says_one t g stock none none a b = refl
-says_one t g stock none (some k) a b = absurd (a k b.0)
-says_one t g stock (some k) none a b = absurd (b k a.0)
-says_one t g stock (some k) (some j) a b =
-    ap some
+says_one t g stock None None a b = refl
+says_one t g stock None (Some k) a b = absurd (a k b.0)
+says_one t g stock (Some k) None a b = absurd (b k a.0)
+says_one t g stock (Some k) (Some j) a b =
+    ap Some
     (cases k j
     (λ h. cases j k (λ l. omega arith) (λ l. absurd (b.1 k l a.0)))
     (λ h. absurd (a.1 j h b.0)))
@@ -107,13 +101,13 @@ module _ (t g : Side) (okt : Sound t) (okg : Sound g) (bal : Balanced t g) (L : 
       (late_reach t g okt okg L (dvd_trans t.period (dvd-mul_right t.period (length t.cycle)) l.left) (dvd_trans g.period (dvd-mul_right g.period (length g.cycle)) l.right))
 
   all_found : (r : Option ℕ) → Found t g stock (jobs L t g) r → Says t g stock r
-  all_found (some k) f = f
-  all_found none f = decided t g okt okg L l.positive l.left l.right bal stock f
+  all_found (Some k) f = f
+  all_found None f = decided t g okt okg L l.positive l.left l.right bal stock f
 
   -- where no case is short, those before `first` say it all
   early_found : some_case (step L t g) t g stock ≡ false → (r : Option ℕ) → Found t g stock (first t g) r → Says t g stock r
-  early_found e (some k) f = f
-  early_found e none f =
+  early_found e (Some k) f = f
+  early_found e None f =
       λ k. cases (first t g) k
       (λ h. (cases_decide t g okt okg bal L l stock).1 (cases_no (step L t g) t g stock e) k h)
       (λ h. f k h)
@@ -143,7 +137,7 @@ module _ (t g : Side) (okt : Sound t) (okg : Sound g) (bal : Balanced t g) (L : 
       go found (all_found found late)
     where
       go : (r : Option ℕ) → Says t g stock r → (k : ℕ) × First (Short t g stock) k
-      go (some k) f = (k, f)
-      go none f =
+      go (Some k) f = (k, f)
+      go None f =
           let s = cases_yes (step L t g) t g stock e in
           absurd ((cases_decide t g okt okg bal L l stock).0 (λ k _. f k) s.0 s.1 s.2 s.3 s.4)

@@ -7,12 +7,12 @@ use native.Mathlib.Omega.{arith}
 use borrow.Author.Tests.{ltb-true, ltb-false, eqb-true, eqb-false, lt-ltb, le-ltb, eq-eqb, ne_eqb}
 use lib.Dec.{ltb, eqb}
 use lib.ListN.{length}
+use Rattle.std.specs.Prelude.{Ok, Err}
 use Rattle.numbers.specs.Lists.{First}
 use Rattle.channel.specs.Side.{Side, Sound, release, total, turn, span, ended, Short, jobs}
 use Rattle.channel.specs.Channel.{Channel, Balanced, Underflows, Overflows}
-use Rattle.channel.specs.declared.Verdict.{Verdict}
-use Rattle.channel.specs.declared.Verdict.TheVariants.{Fine, InitialAboveSize, Unbalanced, WindowTooLong, Underflow, Overflow}
-use Rattle.channel.specs.Judge.{IsLcm, length_of, longest, short, first_short, Means, judge}
+use Rattle.channel.specs.declared.Fault.TheVariants.{InitialAboveSize, Unbalanced, WindowTooLong, Underflow, Overflow}
+use Rattle.channel.specs.Judge.{IsLcm, length_of, longest, short, first_short, Verdict, Means, judge}
 use Rattle.numbers.proofs.Sums.{cases}
 use Rattle.channel.proofs.Periodic.{earlier, decided}
 use Rattle.numbers.proofs.Least.{least_is}
@@ -108,7 +108,7 @@ module _ (ch : Channel) (okp : Sound ch.producer) (okc : Sound ch.consumer) wher
 
   by_tests :
       (a b c d e : Bool) → ltb ch.size ch.initial ≡ a → eqb x y ≡ b → ltb longest w ≡ c → ltb k ks ≡ d → ltb j js ≡ e
-      → Means ch (cond a InitialAboveSize (cond b (cond c WindowTooLong (cond d (Underflow k) (cond e (Overflow j) Fine))) Unbalanced))
+      → Means ch (cond a (Err InitialAboveSize) (cond b (cond c (Err WindowTooLong) (cond d (Err (Underflow k)) (cond e (Err (Overflow j)) (Ok tt)))) (Err Unbalanced)))
   by_tests true b c d e ea eb ec ed ee = ltb-true ch.size ch.initial ea
   by_tests false false c d e ea eb ec ed ee = (ltb-false ch.size ch.initial ea, eqb-false x y eb)
   by_tests false true true d e ea eb ec ed ee = (ltb-false ch.size ch.initial ea, eqb-true x y eb, ltb-true longest w ec)
@@ -141,7 +141,7 @@ module _ (ch : Channel) (okp : Sound ch.producer) (okc : Sound ch.consumer) wher
   -- and no other verdict is true of the channel
   pub means_judge : (v : Verdict) → Means ch v → judge ch ≡ v
   unfolding judge
-  means_judge Fine m =
+  means_judge (Ok tt) m =
       let kn : ks ≤ k = is_none ch.consumer ch.producer L ch.initial m.3 in
       let jn : js ≤ j = is_none ch.producer ch.consumer L (ch.size - ch.initial) (λ i s. m.4 i (short_over ch i s)) in
       rw (
@@ -151,13 +151,13 @@ module _ (ch : Channel) (okp : Sound ch.producer) (okc : Sound ch.consumer) wher
         le-ltb k ks kn,
         le-ltb j js jn,
       )
-  means_judge InitialAboveSize m = rw (lt-ltb ch.size ch.initial m)
-  means_judge Unbalanced m = rw (le-ltb ch.size ch.initial m.0, ne_eqb x y m.1)
-  means_judge WindowTooLong m = rw (le-ltb ch.size ch.initial m.0, eq-eqb x y m.1, lt-ltb longest w m.2)
-  means_judge (Underflow i) m =
+  means_judge (Err InitialAboveSize) m = rw (lt-ltb ch.size ch.initial m)
+  means_judge (Err Unbalanced) m = rw (le-ltb ch.size ch.initial m.0, ne_eqb x y m.1)
+  means_judge (Err WindowTooLong) m = rw (le-ltb ch.size ch.initial m.0, eq-eqb x y m.1, lt-ltb longest w m.2)
+  means_judge (Err (Underflow i)) m =
       let u = is_under m.1 i m.3 in
       rw (le-ltb ch.size ch.initial m.0, eq-eqb x y m.1, le-ltb longest w (omega (arith, m.2)), u.1, lt-ltb i ks u.0)
-  means_judge (Overflow i) m =
+  means_judge (Err (Overflow i)) m =
       let o = is_over m.0 m.1 i m.4 in
       let kn : ks ≤ k = is_none ch.consumer ch.producer L ch.initial m.3 in
       rw (

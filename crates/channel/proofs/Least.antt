@@ -1,8 +1,8 @@
 -- The least common multiple. Assumes nothing.
 use mathlib.Core.Path.{◌≡◌}
 use mathlib.Core.Bool.{Bool}
-use Prim.Native.Nat.{ℕ, suc, ◌*◌, ◌-◌, ◌/◌, ◌%◌, ◌≤◌, ◌<◌, ◌∣◌, suc-le-suc}
-use native.Mathlib.Nat.{le_antisymm, dvd-mul_left, dvd-mul_right, dvd_of_mod-eq-zero, mod-eq-zero_of_dvd, div-mul_cancel, mul-pos, mul-le-mul_right}
+use Prim.Native.Nat.{ℕ, suc, ◌*◌, ◌-◌, ◌/◌, ◌%◌, ◌≤◌, ◌<◌, ◌∣◌}
+use native.Mathlib.Nat.{dvd-mul_left, dvd-mul_right, dvd_of_mod-eq-zero, mod-eq-zero_of_dvd, div-mul_cancel, mul-pos, mul-le-mul_right}
 use native.Mathlib.Omega.{arith}
 use borrow.Author.Tests.{eqb-true, eqb-false}
 use lib.Dec.{eqb}
@@ -50,15 +50,3 @@ module _ (a b : ℕ) (ha : 0 < a) (hb : 0 < b) where
         right = at_divides;
         at_most = at_first;
       }
-
-  -- what a search over the multiples of a finds
-  pub lcm_past : (n : ℕ) → ((i : ℕ) → i < n → ¬ (b ∣ suc i * a)) → n * a < lcm a b
-  unfolding lcm at
-  lcm_past n h = cases (suc at) n (λ l. absurd (h at l at_divides)) (λ l. omega (arith, mul-le-mul_right a l))
-
-  pub lcm_found : (i : ℕ) → b ∣ suc i * a → ((j : ℕ) → j < i → ¬ (b ∣ suc j * a)) → lcm a b ≡ suc i * a
-  unfolding lcm at
-  lcm_found i d h =
-      le_antisymm
-      (lcm_is.at_most (suc i * a) (mul-pos {m = suc i} (omega arith) ha) (dvd-mul_left a (suc i)) d)
-      (cases i at (λ l. mul-le-mul_right a (suc-le-suc l)) (λ l. absurd (h at l at_divides)))

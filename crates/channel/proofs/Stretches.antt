@@ -2,13 +2,13 @@
 use mathlib.Core.Path.{◌≡◌, refl, ap}
 use mathlib.Core.Bool.{Bool, true, false, cond}
 use mathlib.Core.Logic.{◌↔◌}
-use mathlib.Core.Option.{Option, none, some}
 use Prim.Native.Nat.{ℕ, zero, suc, ◌+◌, ◌-◌, ◌/◌, min, ◌≤◌, ◌<◌, ◌∣◌}
 use native.Mathlib.Nat.{le-div_iff_mul-le, div-mul_cancel, div-le_of_le-mul, lt_of_mul-lt-mul_right, min-eq_left, min-eq_right}
 use native.Mathlib.Omega.{arith}
 use borrow.Author.Tests.{ltb-true, ltb-false, leb-true}
 use lib.Dec.{leb, ltb}
 use lib.ListN.{length}
+use Rattle.std.specs.Prelude.{Option, Some, None}
 use Rattle.numbers.specs.Numbers.{ceil, least}
 use Rattle.numbers.specs.Lists.{First}
 use Rattle.channel.specs.Side.{Side, Sound, release, end, total, ended, Short, first, jobs}
@@ -27,8 +27,8 @@ released_iff s ok m x = (
 
 -- what a search among the first n jobs has found
 abbrev pub Found : Side → Side → ℕ → ℕ → Option ℕ → Type 0
-Found t g stock n (some k) = First (Short t g stock) k
-Found t g stock n none = (j : ℕ) → j < n → ¬ Short t g stock j
+Found t g stock n (Some k) = First (Short t g stock) k
+Found t g stock n None = (j : ℕ) → j < n → ¬ Short t g stock j
 
 -- the job that so many stretches from k on lead to
 pub after : Side → Side → ℕ → ℕ → ℕ
@@ -110,8 +110,8 @@ module _ (t g : Side) (okt : Sound t) (okg : Sound g) where
             → (((j : ℕ) → j < beyond t g k → ¬ Short t g stock j) → n ≤ after t g steps (beyond t g k)
             → Found t g stock n (hunt t g stock n steps (beyond t g k)))
             → Found t g stock n
-            (cond a none
-            (cond b (some (k + least (λ i. ltb (supply t g stock k) (total t (suc (k + i)))) (beyond t g k - k)))
+            (cond a None
+            (cond b (Some (k + least (λ i. ltb (supply t g stock k) (total t (suc (k + i)))) (beyond t g k - k)))
             (hunt t g stock n steps (beyond t g k))))
         go true b ea eb rest = λ j h. before j (omega (arith, leb-true n k ea))
         go false true ea eb rest = first_in k before (ltb-true (supply t g stock k) (total t (beyond t g k)) eb)

@@ -12,7 +12,7 @@ abbrev pub gap : ℕ → Side → Side → ℕ → ℕ → ℕ
 gap h taker giver j m = suc ((end giver m + (h - 1 - release taker j % h)) % h)
 
 -- Taker's job j lacks tokens, where giver's job m is the next to end, and that in `before` ticks, if either may be put off by whole turns. In balance a turn more of both weighs nothing, and a tick between them weighs turn / span of the giver; all is multiplied by that span, so that the numbers are whole.
--- Graph A, underflow: job 0 wants 3 × 4 + 2 × 4 = 20 and has (0 + 0) × 4 + 2 × (8 + 2) = 20: just enough. With offset 7 it has 2 × (7 + 1) = 16: short, as 01's sample says.
+-- Graph A, underflow: job 0 wants 3 × 4 + 2 × 4 = 20 and has (0 + 0) × 4 + 2 × (8 + 2) = 20: just enough. With offset 7 it has 2 × (7 + 1) = 16: short.
 abbrev pub Lacks : Side → Side → ℕ → ℕ → ℕ → ℕ → Type 0
 Lacks taker giver stock j m before =
     (stock + total giver m) * span giver + turn giver * (release taker j + before)

@@ -1,10 +1,10 @@
 -- The verdicts on a channel: what each means, and how it is computed. Assumes nothing.
-use Rattle.std.specs.Prelude.{Bool, cond, ℕ, suc, ◌+◌, ◌*◌, ◌-◌, ◌/◌, ◌%◌, min, ◌≤◌, ◌<◌, ltb, eqb, length}
+use Rattle.std.specs.Prelude.{Bool, cond, Result, Ok, Err, ℕ, suc, ◌+◌, ◌*◌, ◌-◌, ◌/◌, ◌%◌, min, ◌≤◌, ◌<◌, ltb, eqb, length}
 use Rattle.std.specs.Int.{◌∣◌}
 use Rattle.numbers.specs.Numbers.{least}
 use Rattle.numbers.specs.Lists.{First}
-use Rattle.channel.specs.declared.Verdict.{Verdict}
-use Rattle.channel.specs.declared.Verdict.TheVariants.{Fine, InitialAboveSize, Unbalanced, WindowTooLong, Underflow, Overflow}
+use Rattle.channel.specs.declared.Fault.{Fault}
+use Rattle.channel.specs.declared.Fault.TheVariants.{InitialAboveSize, Unbalanced, WindowTooLong, Underflow, Overflow}
 use Rattle.channel.specs.Side.{Side, release, total, turn, span, ended, jobs}
 use Rattle.channel.specs.Channel.{Channel, Balanced, Underflows, Overflows}
 
@@ -31,20 +31,24 @@ longest = 65536
 abbrev pub TooLong : Channel → Type 0
 TooLong ch = longest < length_of ch / min ch.producer.period ch.consumer.period
 
+-- a channel is fine, or has a fault
+abbrev pub Verdict : Type 0
+Verdict = Result Unit Fault
+
 -- What each verdict says, over every job without end: its own test fires, if it has one, and those of 13 to 17 before it do not.
 abbrev pub Means : Channel → Verdict → Type 0
-Means ch Fine =
+Means ch (Ok tt) =
     (ch.initial ≤ ch.size)
     × Balanced ch.producer ch.consumer
     × ¬ TooLong ch
     × ((k : ℕ) → ¬ Underflows ch k)
     × ((j : ℕ) → ¬ Overflows ch j)
-Means ch InitialAboveSize = ch.size < ch.initial
-Means ch Unbalanced = (ch.initial ≤ ch.size) × ¬ Balanced ch.producer ch.consumer
-Means ch WindowTooLong = (ch.initial ≤ ch.size) × Balanced ch.producer ch.consumer × TooLong ch
-Means ch (Underflow k) =
+Means ch (Err InitialAboveSize) = ch.size < ch.initial
+Means ch (Err Unbalanced) = (ch.initial ≤ ch.size) × ¬ Balanced ch.producer ch.consumer
+Means ch (Err WindowTooLong) = (ch.initial ≤ ch.size) × Balanced ch.producer ch.consumer × TooLong ch
+Means ch (Err (Underflow k)) =
     (ch.initial ≤ ch.size) × Balanced ch.producer ch.consumer × ¬ TooLong ch × First (Underflows ch) k
-Means ch (Overflow j) =
+Means ch (Err (Overflow j)) =
     (ch.initial ≤ ch.size)
     × Balanced ch.producer ch.consumer
     × ¬ TooLong ch
@@ -67,9 +71,9 @@ judge ch =
     let L : ℕ = length_of ch in
     let k : ℕ = first_short L c p ch.initial in
     let j : ℕ = first_short L p c (ch.size - ch.initial) in
-    cond (ltb ch.size ch.initial) InitialAboveSize
+    cond (ltb ch.size ch.initial) (Err InitialAboveSize)
     (cond (eqb (turn p * length c.cycle * c.period) (turn c * length p.cycle * p.period))
-    (cond (ltb longest (L / min p.period c.period)) WindowTooLong
-    (cond (ltb k (jobs L c p)) (Underflow k)
-    (cond (ltb j (jobs L p c)) (Overflow j) Fine)))
-    Unbalanced)
+    (cond (ltb longest (L / min p.period c.period)) (Err WindowTooLong)
+    (cond (ltb k (jobs L c p)) (Err (Underflow k))
+    (cond (ltb j (jobs L p c)) (Err (Overflow j)) (Ok tt))))
+    (Err Unbalanced))

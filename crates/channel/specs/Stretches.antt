@@ -1,6 +1,5 @@
 -- A quicker way to find the first short job, no part of the law: the taker's jobs between two ends of the giver are tested together. `says_fast` (proofs/Fast) says that it finds what is true of all jobs. Assumes nothing.
-use Rattle.std.specs.Prelude.{Bool, cond, ◌&&◌, ℕ, zero, suc, ◌+◌, ◌*◌, ◌-◌, ◌/◌, ◌%◌, min, max, leb, ltb, length}
-use Rattle.std.proofs.Math.Option.{Option, none, some}
+use Rattle.std.specs.Prelude.{Bool, Option, Some, None, cond, ◌&&◌, ℕ, zero, suc, ◌+◌, ◌*◌, ◌-◌, ◌/◌, ◌%◌, min, max, leb, ltb, length}
 use Rattle.numbers.specs.Numbers.{ceil, least}
 use Rattle.numbers.specs.Lists.{First}
 use Rattle.channel.specs.Side.{Side, release, end, total, turn, span, ended, Short, first, jobs}
@@ -20,17 +19,17 @@ supply taker giver stock k = stock + total giver (ended giver (release taker k))
 
 -- What is said of all jobs without end: the first that is short, or that none is.
 abbrev pub Says : Side → Side → ℕ → Option ℕ → Type 0
-Says taker giver stock (some k) = First (Short taker giver stock) k
-Says taker giver stock none = (k : ℕ) → ¬ Short taker giver stock k
+Says taker giver stock (Some k) = First (Short taker giver stock) k
+Says taker giver stock None = (k : ℕ) → ¬ Short taker giver stock k
 
 -- The search: stretch by stretch from job k on, until it comes to job n, in so many steps. Of a stretch whose last job is short the first short one is looked for.
 unfoldable pub hunt : Side → Side → ℕ → ℕ → ℕ → ℕ → Option ℕ
-hunt taker giver stock n zero k = none
+hunt taker giver stock n zero k = None
 hunt taker giver stock n (suc steps) k =
     let next : ℕ = beyond taker giver k in
-    cond (leb n k) none
+    cond (leb n k) None
     (cond (ltb (supply taker giver stock k) (total taker next))
-    (some (k + least (λ i. ltb (supply taker giver stock k) (total taker (suc (k + i)))) (next - k)))
+    (Some (k + least (λ i. ltb (supply taker giver stock k) (total taker (suc (k + i)))) (next - k)))
     (hunt taker giver stock n steps next))
 
 -- the test of a case, by the tick in which the taker's job is released and what the taker's jobs up to it move

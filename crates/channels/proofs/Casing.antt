@@ -1,237 +1,178 @@
 -- The tests of the cases, row by row. Assumes nothing.
 use mathlib.Core.Path.{◌≡◌, refl, sym, ap, ◌∙◌}
 use mathlib.Core.Bool.{Bool, true, false, ◌&&◌}
-use mathlib.Core.List.{List}
 use Prim.Native.Nat.{ℕ, suc, ◌+◌, ◌*◌, ◌-◌, ◌%◌, ◌≤◌, ◌<◌}
 use native.Mathlib.Nat.{mul-le-mul, mod-lt, add-mod}
 use native.Mathlib.Numerals.{add-one}
 use native.Mathlib.Omega.{arith}
+use borrow.Author.Tests.{le-leb, lt-leb, lt-ltb, le-ltb}
 use lib.Dec.{leb, ltb}
-use lib.ListN.{length, get_or}
+use lib.ListN.{length}
 use Rattle.numbers.proofs.Sums.{extend}
 use Rattle.channel.specs.Side as side
-use Rattle.channel.specs.Side.{Side, total, turn, span}
+use Rattle.channel.specs.Side.{Side, rate, total, turn, span}
 use Rattle.channel.specs.Stretches.{short_at, short_case, some_below}
 use Rattle.channel.proofs.Fast.{yes_some, no_some}
-use Rattle.channels.specs.Tables.{Kept}
-use Rattle.channels.specs.Answers.{Weights, Row, Cased}
-use Rattle.channels.proofs.Tables.{total_most, turn_is, turn_most}
-use Rattle.channels.proofs.Weighing.{span_most}
+use Rattle.channel.proofs.Totals.{total_bound}
+use Rattle.channels.specs.Sides.{Limited}
+use Rattle.graph.specs.Model.{max_cycle, million}
+
+pub span_most : (s : Side) → Limited s → span s ≤ 32_000_000
+span_most s ok = omega (arith, mul-le-mul {n₁ = s.period} {n₂ = 1_000_000} {m₂ = 32} ok.period_most ok.cycle_most)
 
 -- ---- one row
 
--- the giver's places before `place` are tested; `end` is that place's end, and `rest` what is left of it modulo the step
-pub record Rowed (g : Side) (stock step tick wants end rest place : ℕ) : Type 0 where
-  pub starts : length g.prefix ≤ place
-  pub within : place ≤ length g.prefix + length g.cycle
-  pub ends : end ≡ side.end g place
+-- a step, and a job of the taker by its release and what is wanted with it, in range
+pub record Row (step tick wants : ℕ) : Type 0 where
+  pub some_step : 1 ≤ step
+  pub step_most : step ≤ max_cycle * million
+  pub tick_most : tick ≤ 49 * million
+  pub wants_most : wants ≤ 5_000_000
+
+-- the first i places of the giver's cycle are tested; `end` is the next one's end, and `rest` what is left of it modulo the step
+pub record Rowed (g : Side) (stock step tick wants end rest i : ℕ) : Type 0 where
+  pub ends : end ≡ side.end g (length g.prefix + i)
   pub leaves : rest ≡ (end + (step - 1 - tick % step)) % step
-  pub none : (b : ℕ) → b < place - length g.prefix → short_at step g stock tick wants b ≡ false
+  pub none : (b : ℕ) → b < i → short_at step g stock tick wants b ≡ false
 
--- the test as the code makes it
-abbrev pub tested : Side → ℕ → ℕ → ℕ → ℕ → ℕ → ℕ → ℕ → Bool
-tested g stock tick wants total before end turn =
-    leb before g.period && ltb ((stock + total) * span g + turn * (tick + before)) (wants * span g + turn * end)
+-- what is known at place i of the giver's cycle: the products fit, and the test there is that of the case
+pub record Tested (g : Side) (stock step tick wants end rest i has : ℕ) : Type 0 where
+  pub has_small : stock + has ≤ 4_300_000_000
+  pub has_fits : (stock + has) * span g ≤ 137_600_000_000_000_000
+  pub wants_fits : wants * span g ≤ 160_000_000_000_000
+  pub time_fits : turn g * (tick + (rest + 1)) ≤ 169_866_720_000_000
+  pub last_fits : turn g * end ≤ 104_856_000_000_000
+  pub found :
+      rest + 1 ≤ g.period → (stock + has) * span g + turn g * (tick + (rest + 1)) < wants * span g + turn g * end
+      → true ≡ some_below (short_at step g stock tick wants) (length g.cycle)
+  pub not_late : g.period < rest + 1 → short_at step g stock tick wants i ≡ false
+  pub not_lacking :
+      rest + 1 ≤ g.period → wants * span g + turn g * end ≤ (stock + has) * span g + turn g * (tick + (rest + 1))
+      → short_at step g stock tick wants i ≡ false
 
-module _ (g : Side) (stock step tick wants : ℕ) (ok : Row g stock step tick wants) where
-  pub row_start : Rowed g stock step tick wants (side.end g (length g.prefix)) ((side.end g (length g.prefix) + (step - 1 - tick % step)) % step) (length g.prefix)
-  row_start =
-      record {
-        starts = omega arith;
-        within = omega arith;
-        ends = refl;
-        leaves = refl;
-        none = λ b h. absurd (omega arith);
-      }
+module _ (g : Side) (stock step tick wants : ℕ) (ok : Row step tick wants) where
+  pub row_start : Rowed g stock step tick wants (side.end g (length g.prefix)) ((side.end g (length g.prefix) + (step - 1 - tick % step)) % step) 0
+  row_start = record { ends = omega arith; leaves = refl; none = λ b h. absurd (omega arith) }
 
-  module _ (sums : List ℕ) (kept : Kept g.prefix g.cycle sums) (end rest place : ℕ) (s : Rowed g stock step tick wants end rest place) where
-    pub rest_small : rest < step
-    rest_small = omega (arith, s.leaves, mod-lt (end + (step - 1 - tick % step)) {m = step} ok.some_step)
+  module _ (end rest i : ℕ) (now : Rowed g stock step tick wants end rest i) where
+    rest_small : rest < step
+    rest_small = omega (arith, now.leaves, mod-lt (end + (step - 1 - tick % step)) {m = step} ok.some_step)
 
-    module _ (less : place < length g.prefix + length g.cycle) where
-      place_small : place ≤ 47
-      place_small = omega (arith, ok.limited.prefix_most, ok.limited.cycle_most)
+    module _ (limited : Limited g) (few : (j : ℕ) → rate g j ≤ 65535) (turn_most : turn g ≤ 2_097_120) (stock_fits : stock < 4_294_967_296)
+        (less : i < length g.cycle) (has : ℕ) (is : has ≡ total g (length g.prefix + i)) where
+      place_small : length g.prefix + i ≤ 47
+      place_small = omega (arith, limited.prefix_most, limited.cycle_most)
 
-      total_small : get_or sums place 0 ≤ 3_145_680
-      total_small = omega (arith, place_small, kept.tabled.at place (omega arith), total_most g.prefix g.cycle kept.listed sums kept.tabled place)
+      small : stock + has ≤ 4_300_000_000
+      small = omega (arith, is, place_small, total_bound g 65535 few (length g.prefix + i), stock_fits)
 
-      pub last_small : end ≤ 49_000_000
+      last_small : end ≤ 49_000_000
       last_small =
           omega (
             arith,
-            s.ends,
-            mul-le-mul {n₁ = place} {m₁ = g.period} {n₂ = 47} {m₂ = 1_000_000} place_small ok.limited.period_most,
-            ok.limited.offset_most,
-            ok.limited.fits,
-            ok.limited.period_most,
+            now.ends,
+            mul-le-mul {n₁ = length g.prefix + i} {m₁ = g.period} {n₂ = 47} {m₂ = 1_000_000} place_small limited.period_most,
+            limited.offset_most,
+            limited.fits,
+            limited.period_most,
           )
 
-      pub has_small : stock + get_or sums place 0 ≤ 5_000_000
-      has_small = omega (arith, total_small, ok.stock_most)
-
-      pub weights : Weights (stock + get_or sums place 0) wants tick (rest + 1) end (span g) (get_or sums (length g.prefix + length g.cycle) 0 - get_or sums (length g.prefix) 0)
-      weights =
-          record {
-            has_most = has_small;
-            wants_most = ok.wants_most;
-            tick_most = ok.tick_most;
-            before_most = omega (arith, rest_small, ok.step_most);
-            end_most = omega (arith, last_small);
-            span_most = span_most g ok.limited;
-            turn_most =
-                omega (
-                  arith,
-                  turn_is g.prefix g.cycle kept.listed sums kept.tabled,
-                  turn_most g.prefix g.cycle kept.listed sums kept.tabled,
-                  ok.limited.cycle_most,
-                );
-          }
-
-      -- is the test of the case
-      pub is_case :
-          tested g stock tick wants (get_or sums place 0) (rest + 1) end (get_or sums (length g.prefix + length g.cycle) 0 - get_or sums (length g.prefix) 0)
-          ≡ short_at step g stock tick wants (place - length g.prefix)
+      -- the test as the code makes it is that of the case
+      is_case :
+          (leb (rest + 1) g.period && ltb ((stock + has) * span g + turn g * (tick + (rest + 1))) (wants * span g + turn g * end))
+          ≡ short_at step g stock tick wants i
       unfolding short_at
       is_case =
-          let m : ℕ = length g.prefix + (place - length g.prefix) in
-          let e : m ≡ place = omega (arith, s.starts) in
-          let x : rest + 1 ≡ suc ((side.end g m + (step - 1 - tick % step)) % step) =
-          add-one rest ∙ ap suc (s.leaves ∙ ap (λ y. (y + (step - 1 - tick % step)) % step) (s.ends ∙ ap (side.end g) (sym e))) in
-          let y : get_or sums place 0 ≡ total g m = kept.tabled.at place (omega arith) ∙ ap (total g) (sym e) in
-          let z : end ≡ side.end g m = s.ends ∙ ap (side.end g) (sym e) in
-          let w = turn_is g.prefix g.cycle kept.listed sums kept.tabled in
-          rw (x, y, z, w)
+          let x : rest + 1 ≡ suc ((side.end g (length g.prefix + i) + (step - 1 - tick % step)) % step) =
+          add-one rest ∙ ap suc (now.leaves ∙ ap (λ y. (y + (step - 1 - tick % step)) % step) now.ends) in
+          rw (x, is, now.ends)
 
-      pub row_found : (r : Bool) → r ≡ tested g stock tick wants (get_or sums place 0) (rest + 1) end (get_or sums (length g.prefix + length g.cycle) 0 - get_or sums (length g.prefix) 0)
-          → r ≡ true → true ≡ some_below (short_at step g stock tick wants) (length g.cycle)
-      row_found r e t =
-          sym (yes_some (short_at step g stock tick wants) (length g.cycle) (place - length g.prefix) (omega (arith, s.starts)) (sym is_case ∙ sym e ∙ t))
-
-      pub row_more : (r : Bool) → r ≡ tested g stock tick wants (get_or sums place 0) (rest + 1) end (get_or sums (length g.prefix + length g.cycle) 0 - get_or sums (length g.prefix) 0)
-          → r ≡ false → Rowed g stock step tick wants (end + g.period) ((rest + g.period % step) % step) (place + 1)
-      row_more r e f =
-          let now : short_at step g stock tick wants (place - length g.prefix) ≡ false = sym is_case ∙ sym e ∙ f in
-          let a : ℕ = step - 1 - tick % step in
+      pub tested : Tested g stock step tick wants end rest i has
+      tested =
           record {
-            starts = omega (arith, s.starts);
-            within = omega arith;
-            ends = omega (arith, s.ends);
-            leaves =
-                let swap : end + a + g.period ≡ end + g.period + a = omega arith in
-                let same : (end + a + g.period) % step ≡ (rest + g.period % step) % step =
-                add-mod (end + a) g.period step ∙ ap (λ x. (x + g.period % step) % step) (sym s.leaves) in
-                sym same ∙ ap (λ x. x % step) swap;
-            none = λ b h. extend (λ i. short_at step g stock tick wants i ≡ false) (place - length g.prefix) s.none now b (omega (arith, s.starts));
+            has_small = small;
+            has_fits = mul-le-mul {n₁ = stock + has} {m₁ = span g} {n₂ = 4_300_000_000} {m₂ = 32_000_000} small (span_most g limited);
+            wants_fits = mul-le-mul {n₁ = wants} {m₁ = span g} {n₂ = 5_000_000} {m₂ = 32_000_000} ok.wants_most (span_most g limited);
+            time_fits =
+                mul-le-mul {n₁ = turn g} {m₁ = tick + (rest + 1)} {n₂ = 2_097_120} {m₂ = 81_000_000} turn_most
+                (omega (arith, ok.tick_most, rest_small, ok.step_most));
+            last_fits = mul-le-mul {n₁ = turn g} {m₁ = end} {n₂ = 2_097_120} {m₂ = 50_000_000} turn_most (omega (arith, last_small));
+            found = λ meet lacks.
+                sym (yes_some (short_at step g stock tick wants) (length g.cycle) i less (sym is_case ∙ rw (le-leb (rest + 1) g.period meet) (lt-ltb _ _ lacks)));
+            not_late = λ h. sym is_case ∙ rw (lt-leb (rest + 1) g.period h) refl;
+            not_lacking = λ meet enough. sym is_case ∙ rw (le-leb (rest + 1) g.period meet) (le-ltb _ _ enough);
           }
 
-    pub row_none : length g.prefix + length g.cycle ≤ place → false ≡ some_below (short_at step g stock tick wants) (length g.cycle)
-    row_none h = sym (no_some (short_at step g stock tick wants) (length g.cycle) (λ b l. s.none b (omega arith)))
+    pub row_more : short_at step g stock tick wants i ≡ false → Rowed g stock step tick wants (end + g.period) ((rest + g.period % step) % step) (i + 1)
+    row_more this =
+        let a : ℕ = step - 1 - tick % step in
+        record {
+          ends = omega (arith, now.ends);
+          leaves =
+              let swap : end + a + g.period ≡ end + g.period + a = omega arith in
+              let same : (end + a + g.period) % step ≡ (rest + g.period % step) % step =
+              add-mod (end + a) g.period step ∙ ap (λ x. (x + g.period % step) % step) (sym now.leaves) in
+              sym same ∙ ap (λ x. x % step) swap;
+          none = λ b h. extend (λ j. short_at step g stock tick wants j ≡ false) i now.none this b (omega arith);
+        }
+
+pub row_none : (g : Side) (stock step tick wants end rest i : ℕ) → Rowed g stock step tick wants end rest i → length g.cycle ≤ i
+    → false ≡ some_below (short_at step g stock tick wants) (length g.cycle)
+row_none g stock step tick wants end rest i now h =
+    sym (no_some (short_at step g stock tick wants) (length g.cycle) (λ b l. now.none b (omega arith)))
 
 -- ---- all rows
 
--- the taker's places before `place` are tested; `tick` is that place's release
-pub record Ranked (t g : Side) (stock step tick place : ℕ) : Type 0 where
-  pub starts : length t.prefix ≤ place
-  pub within : place ≤ length t.prefix + length t.cycle
-  pub ticks : tick ≡ side.release t place
-  pub none : (a : ℕ) → a < place - length t.prefix → some_below (short_case step t g stock a) (length g.cycle) ≡ false
+-- the first i places of the taker's cycle are tested; `tick` is the next one's release
+pub record Ranked (t g : Side) (stock step tick i : ℕ) : Type 0 where
+  pub ticks : tick ≡ side.release t (length t.prefix + i)
+  pub none : (a : ℕ) → a < i → some_below (short_case step t g stock a) (length g.cycle) ≡ false
 
--- no test asks for the taker's window
-abbrev pub windowless : Side → Side
-windowless t = record { period = t.period; offset = t.offset; window = 1; prefix = t.prefix; cycle = t.cycle }
+module _ (t g : Side) (stock step : ℕ) (tick i : ℕ) (now : Ranked t g stock step tick i) where
+  module _ (limited : Limited t) (few : (j : ℕ) → rate t j ≤ 65535)
+      (less : i < length t.cycle) (wants : ℕ) (is : wants ≡ total t (length t.prefix + 1 + i)) where
+    place_few : length t.prefix + i ≤ 47
+    place_few = omega (arith, limited.prefix_most, limited.cycle_most)
 
-pub windowless_ok : {t g : Side} {stock step : ℕ} → Cased t g stock step → Cased (windowless t) g stock step
-windowless_ok ok =
-    let l = ok.taker_limited in
-    record {
-      taker_limited =
-          record {
-            some_tick = omega arith;
-            fits = omega arith;
-            some_rate = l.some_rate;
-            period_most = l.period_most;
-            offset_most = l.offset_most;
-            prefix_most = l.prefix_most;
-            cycle_most = l.cycle_most;
-          };
-      giver_limited = ok.giver_limited;
-      stock_most = ok.stock_most;
-      some_step = ok.some_step;
-      step_most = ok.step_most;
-    }
+    pub tick_small : tick ≤ 48_000_000
+    tick_small =
+        omega (
+          arith,
+          now.ticks,
+          mul-le-mul {n₁ = length t.prefix + i} {m₁ = t.period} {n₂ = 47} {m₂ = 1_000_000} place_few limited.period_most,
+          limited.offset_most,
+        )
 
-module _ (t g : Side) (stock step : ℕ) (ok : Cased t g stock step) where
-  pub rank_start : Ranked t g stock step (side.release t (length t.prefix)) (length t.prefix)
-  rank_start =
-      record {
-        starts = omega arith;
-        within = omega arith;
-        ticks = refl;
-        none = λ b h. absurd (omega arith);
-      }
+    pub wants_small : wants ≤ 5_000_000
+    wants_small = omega (arith, is, place_few, total_bound t 65535 few (length t.prefix + 1 + i))
 
-  module _ (sums : List ℕ) (kept : Kept t.prefix t.cycle sums) (tick place : ℕ) (s : Ranked t g stock step tick place) where
-    module _ (less : place < length t.prefix + length t.cycle) where
-      place_few : place ≤ 47
-      place_few = omega (arith, ok.taker_limited.prefix_most, ok.taker_limited.cycle_most)
+  module _ (wants : ℕ) (is : wants ≡ total t (length t.prefix + 1 + i)) where
+    -- the row that is tested is that of the place
+    row_is :
+        some_below (short_at step g stock tick wants) (length g.cycle)
+        ≡ some_below (short_case step t g stock i) (length g.cycle)
+    row_is =
+        let next : length t.prefix + 1 + i ≡ suc (length t.prefix + i) = omega arith in
+        let y : wants ≡ total t (suc (length t.prefix + i)) = is ∙ ap (total t) next in
+        rw (now.ticks, y)
 
-      pub tick_small : tick ≤ 48_000_000
-      tick_small =
-          omega (
-            arith,
-            s.ticks,
-            mul-le-mul {n₁ = place} {m₁ = t.period} {n₂ = 47} {m₂ = 1_000_000} place_few ok.taker_limited.period_most,
-            ok.taker_limited.offset_most,
-          )
+    pub rank_found : i < length t.cycle → (r : Bool) → r ≡ some_below (short_at step g stock tick wants) (length g.cycle) → r ≡ true
+        → true ≡ some_below (λ a. some_below (short_case step t g stock a) (length g.cycle)) (length t.cycle)
+    rank_found less r e f =
+        sym
+        (yes_some (λ a. some_below (short_case step t g stock a) (length g.cycle)) (length t.cycle) i less
+        (sym row_is ∙ sym e ∙ f))
 
-      pub row_ok : Row g stock step tick (get_or sums (place + 1) 0)
-      row_ok =
-          record {
-            limited = ok.giver_limited;
-            stock_most = ok.stock_most;
-            some_step = ok.some_step;
-            step_most = ok.step_most;
-            tick_most = omega (arith, tick_small);
-            wants_most =
-                omega (
-                  arith,
-                  place_few,
-                  kept.tabled.at (place + 1) (omega arith),
-                  total_most t.prefix t.cycle kept.listed sums kept.tabled (place + 1),
-                );
-          }
+    pub rank_more : (r : Bool) → r ≡ some_below (short_at step g stock tick wants) (length g.cycle) → r ≡ false
+        → Ranked t g stock step (tick + t.period) (i + 1)
+    rank_more r e f =
+        record {
+          ticks = omega (arith, now.ticks);
+          none = λ a h.
+              extend (λ j. some_below (short_case step t g stock j) (length g.cycle) ≡ false) i now.none (sym row_is ∙ sym e ∙ f) a (omega arith);
+        }
 
-      -- the row that is tested is that of the place
-      row_is :
-          some_below (short_at step g stock tick (get_or sums (place + 1) 0)) (length g.cycle)
-          ≡ some_below (short_case step t g stock (place - length t.prefix)) (length g.cycle)
-      row_is =
-          let m : ℕ = length t.prefix + (place - length t.prefix) in
-          let e : m ≡ place = omega (arith, s.starts) in
-          let x : tick ≡ side.release t m = s.ticks ∙ ap (side.release t) (sym e) in
-          let y : get_or sums (place + 1) 0 ≡ total t (suc m) = kept.tabled.at (place + 1) (omega arith) ∙ ap (total t) (add-one place ∙ ap suc (sym e)) in
-          rw (x, y)
-
-      pub rank_found : (r : Bool) → r ≡ some_below (short_at step g stock tick (get_or sums (place + 1) 0)) (length g.cycle) → r ≡ true
-          → true ≡ some_below (λ a. some_below (short_case step t g stock a) (length g.cycle)) (length t.cycle)
-      rank_found r e f =
-          sym
-          (yes_some (λ a. some_below (short_case step t g stock a) (length g.cycle)) (length t.cycle) (place - length t.prefix)
-          (omega (arith, s.starts)) (sym row_is ∙ sym e ∙ f))
-
-      pub rank_more : (r : Bool) → r ≡ some_below (short_at step g stock tick (get_or sums (place + 1) 0)) (length g.cycle) → r ≡ false
-          → Ranked t g stock step (tick + t.period) (place + 1)
-      rank_more r e f =
-          let now : some_below (short_case step t g stock (place - length t.prefix)) (length g.cycle) ≡ false = sym row_is ∙ sym e ∙ f in
-          record {
-            starts = omega (arith, s.starts);
-            within = omega arith;
-            ticks = omega (arith, s.ticks);
-            none = λ a h.
-                extend (λ i. some_below (short_case step t g stock i) (length g.cycle) ≡ false) (place - length t.prefix) s.none now a (omega (arith, s.starts));
-          }
-
-    pub rank_none : length t.prefix + length t.cycle ≤ place
-        → false ≡ some_below (λ a. some_below (short_case step t g stock a) (length g.cycle)) (length t.cycle)
-    rank_none h =
-        sym (no_some (λ a. some_below (short_case step t g stock a) (length g.cycle)) (length t.cycle) (λ a l. s.none a (omega arith)))
+  pub rank_none : length t.cycle ≤ i
+      → false ≡ some_below (λ a. some_below (short_case step t g stock a) (length g.cycle)) (length t.cycle)
+  rank_none h =
+      sym (no_some (λ a. some_below (short_case step t g stock a) (length g.cycle)) (length t.cycle) (λ a l. now.none a (omega arith)))

@@ -17,11 +17,8 @@ pub record Reduced (a b x y rest : ℕ) : Type 0 where
   pub leaves : rest ≡ x % y
   pub keeps : (h : ℕ) → Common x y h → Common a b h
 
-pub reduced_none : (a b : ℕ) → 0 < a → 0 < b → Reduced a b a b (a % b)
-reduced_none a b pa pb = record { some_x = pa; some_y = pb; most = omega arith; leaves = refl; keeps = λ h c. c }
-
 module _ (a b x y rest : ℕ) (r : Reduced a b x y rest) where
-  pub rest_less : rest < y
+  rest_less : rest < y
   rest_less = omega (arith, r.leaves, mod-lt x {m = y} r.some_y)
 
   pub reduced_more : ¬ (rest ≡ 0) → Reduced a b y rest (y % rest)

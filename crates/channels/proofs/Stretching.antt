@@ -6,19 +6,20 @@ use native.Mathlib.Omega.{arith}
 use Rattle.numbers.specs.Numbers.{ceil}
 use Rattle.numbers.specs.Lists.{First}
 use Rattle.numbers.proofs.Sums.{cases}
-use Rattle.channel.specs.Side.{Side, Sound, release, end, total, ended, Short}
+use Rattle.channel.specs.Side.{Side, release, end, total, ended, Short}
 use Rattle.channel.specs.Stretches.{released, beyond}
 use Rattle.channel.proofs.Jobs.{ended_closed, ended_iff, ended_few, ended_mono, release_late, release_mono}
 use Rattle.channel.proofs.Stretches.{released_iff, goes_on, short_in, stretch}
 use Rattle.channels.specs.Sides.{Limited}
-use Rattle.channels.specs.Tables.{Listed, Above}
-use Rattle.channels.specs.Answers.{Searchable, passed_of}
+use Rattle.channels.specs.Tables.{Above}
+use Rattle.channels.specs.Answers.{passed_of, most_jobs}
+use Rattle.channels.proofs.Tables.{sound}
 
-pub sound : {s : Side} → Limited s → Sound s
-sound l = record { some_tick = l.some_tick; fits = l.fits; some_rate = l.some_rate }
-
-pub listed : {s : Side} → Limited s → Listed s.prefix s.cycle
-listed l = record { prefix_most = l.prefix_most; some_rate = l.some_rate; cycle_most = l.cycle_most }
+-- two sides in range, and so few jobs that the totals fit 64 bits
+pub record Searchable (t g : Side) (jobs : ℕ) : Type 0 where
+  pub taker : Limited t
+  pub giver : Limited g
+  pub jobs_most : jobs ≤ most_jobs
 
 -- where some are known to be passed, it is enough to count on from there
 pub passed_on : (first period known tick : ℕ) → 0 < period → known ≤ passed_of first period tick
@@ -34,7 +35,7 @@ pub record Stood (t g : Side) (stock next ended k : ℕ) : Type 0 where
   pub known : ended ≤ passed_of (g.offset + g.window) g.period (release t k)
   pub ends : next ≡ end g ended
 
-module _ (t g : Side) (stock jobs : ℕ) (ok : Searchable t g stock jobs) (k : ℕ) (less : k < jobs) where
+module _ (t g : Side) (jobs : ℕ) (ok : Searchable t g jobs) (k : ℕ) (less : k < jobs) where
   pub release_most : release t k ≤ 2_179_666_000_000
   release_most =
       omega (
@@ -106,14 +107,14 @@ module _ (t g : Side) (stock jobs : ℕ) (ok : Searchable t g stock jobs) (k : �
             ended_closed g (sound ok.giver) (release t n),
           )
 
-      module _ (have : ℕ) (eh : have ≡ stock + total g q) (quiet : (j : ℕ) → j < k → ¬ Short t g stock j) where
+      module _ (stock have : ℕ) (eh : have ≡ stock + total g q) (quiet : (j : ℕ) → j < k → ¬ Short t g stock j) where
         supplied : have ≡ stock + total g (ended g (release t k))
         supplied = omega (arith, eh, ap (total g) is_ended)
 
         short_here : (j : ℕ) → k ≤ j → j < n → Short t g stock j → have < total t (suc j)
         short_here j a b s = omega (arith, supplied, (short_in t g (sound ok.taker) (sound ok.giver) stock k j a (omega (arith, is_beyond))).0 s)
 
-        pub first_here : (r : ℕ) → Above t.prefix t.cycle have k n r → First (Short t g stock) r
+        pub first_here : (r : ℕ) → Above t have k n r → First (Short t g stock) r
         first_here r a = (
           (short_in t g (sound ok.taker) (sound ok.giver) stock k r a.behind (omega (arith, is_beyond, a.before))).1 (omega (arith, supplied, a.above)),
           λ j l. cases k j (λ h s. omega (arith, short_here j h (omega (arith, a.before)) s, a.none j h l)) (λ h. quiet j h),
@@ -135,7 +136,7 @@ module _ (t g : Side) (stock jobs : ℕ) (ok : Searchable t g stock jobs) (k : �
         stood_on next e enough = record { quiet = none_here enough; known = ended_known; ends = e }
 
   -- counting on from what is known
-  module _ (next ended : ℕ) (s : Stood t g stock next ended k) where
+  module _ (stock next ended : ℕ) (s : Stood t g stock next ended k) where
     pub counted : (m : ℕ) → m ≡ passed_of next g.period (release t k) → ended + m ≡ passed_of (g.offset + g.window) g.period (release t k)
     counted m e =
         let from : next ≡ g.offset + g.window + ended * g.period = omega (arith, s.ends) in

@@ -1,19 +1,23 @@
 -- A side's table of totals: how it is filled, and the total of any number of jobs by it. Assumes nothing.
-use mathlib.Core.Path.{◌≡◌, sym, ap, ◌∙◌, subst}
+use mathlib.Core.Path.{◌≡◌, refl, sym, ap, ◌∙◌, subst}
 use mathlib.Core.List.{List}
 use Prim.Native.Nat.{ℕ, suc, ◌+◌, ◌*◌, ◌-◌, ◌/◌, ◌%◌, ◌≤◌, ◌<◌}
 use native.Mathlib.Nat.{mod-lt, mod-eq_of_lt, div-lt_self}
 use native.Mathlib.Numerals.{add-one}
 use native.Mathlib.Decide.{dec_lt}
 use native.Mathlib.Omega.{arith}
-use lib.ListN.{length, get_or, set, length-set}
+use lib.ListN.{length, get_or, set, take, drop, length-set}
 use lib.Seq.{get_or-set_same, get_or-set_other}
+use Rattle.std.proofs.lemmas.List.{get_or-take, get_or-drop}
 use Rattle.numbers.proofs.Sums.{cases, extend, sum_zero, sum_suc, sum_mono, sum_const}
 use Rattle.graph.specs.Rates.{rate_of}
 use Rattle.graph.proofs.Rates.{in_cycle, rate_is, place_first_turn}
-use Rattle.channel.specs.Side.{Side, Sound, turn}
+use Rattle.channel.specs.Side.{Side, Sound, total, turn}
 use Rattle.channel.proofs.Totals.{total_mono, total_bound, rate_cycle, turns, total_folded}
-use Rattle.channels.specs.Tables.{total_of, Listed, Tabled, Above}
+use Rattle.channels.specs.Sides.{Limited}
+use Rattle.channels.specs.Tables.{Listed, Tabled, Above}
+use Rattle.channels.specs.Party.{side_of, Kept}
+use Rattle.channels.specs.declared.Party.TheInside.{Inside}
 
 module _ (prefix cycle : List ℕ) where
   -- totals ask for no times
@@ -25,8 +29,8 @@ module _ (prefix cycle : List ℕ) where
       rate_is prefix cycle i cycle (i - length prefix) (in_cycle prefix cycle i h) (place_first_turn (length prefix) (length cycle) i h (omega arith))
 
   module _ (ok : Listed prefix cycle) where
-    sound : Sound timeless
-    sound = record { some_tick = omega arith; fits = omega arith; some_rate = ok.some_rate }
+    plain : Sound timeless
+    plain = record { some_tick = omega arith; fits = omega arith; some_rate = ok.some_rate }
 
     -- the rates of prefix and one turn are all that there are
     few_all : ((j : ℕ) → j < length prefix + length cycle → rate_of prefix cycle j ≤ 65535) → (j : ℕ) → rate_of prefix cycle j ≤ 65535
@@ -38,63 +42,17 @@ module _ (prefix cycle : List ℕ) where
         let back : d % n < n = mod-lt d {m = n} ok.some_rate in
         let e : length prefix + d ≡ j = omega arith in
         let same : rate_of prefix cycle (length prefix + d) ≡ rate_of prefix cycle (length prefix + d % n) =
-        rate_cycle timeless sound d ∙ ap (λ x. get_or cycle x 0) (sym (mod-eq_of_lt back)) ∙ sym (rate_cycle timeless sound (d % n)) in
+        rate_cycle timeless plain d ∙ ap (λ x. get_or cycle x 0) (sym (mod-eq_of_lt back)) ∙ sym (rate_cycle timeless plain (d % n)) in
         omega (arith, same, ap (rate_of prefix cycle) e, few (length prefix + d % n) (omega arith)))
         (few j)
-
-    module _ (sums : List ℕ) (tab : Tabled prefix cycle sums) where
-      pub total_most : (m : ℕ) → total_of prefix cycle m ≤ 65535 * m
-      total_most m = omega (arith, total_bound timeless 65535 tab.few m)
-
-      pub rises : get_or sums (length prefix) 0 ≤ get_or sums (length prefix + length cycle) 0
-      rises =
-          omega (
-            arith,
-            tab.at (length prefix) (omega arith),
-            tab.at (length prefix + length cycle) (omega arith),
-            total_mono timeless (length prefix) (length prefix + length cycle) (omega arith),
-          )
-
-      pub turn_is : get_or sums (length prefix + length cycle) 0 - get_or sums (length prefix) 0 ≡ turn timeless
-      turn_is =
-          let one : length prefix + 1 * length cycle ≡ length prefix + length cycle = omega arith in
-          omega (
-            arith,
-            tab.at (length prefix) (omega arith),
-            tab.at (length prefix + length cycle) (omega arith),
-            ap (total_of prefix cycle) one,
-            turns timeless sound (length prefix) 1 (omega arith),
-          )
-
-      pub turn_most : turn timeless ≤ 65535 * length cycle
-      turn_most =
-          let low = sum_mono (λ i. get_or cycle i 0) (λ _. 65535) (length cycle)
-          (λ j h. let k : ℕ = length prefix + j in let e : k - length prefix ≡ j = omega arith in omega (arith, tab.few k, entry_late k (omega arith) (omega arith), ap (λ x. get_or cycle x 0) e)) in
-          omega (arith, low, sum_const 65535 (length cycle))
-
-      -- past the prefix
-      pub folded :
-          (m : ℕ) → length prefix ≤ m
-          → get_or sums (length prefix + (m - length prefix) % length cycle) 0
-          + (m - length prefix) / length cycle * (get_or sums (length prefix + length cycle) 0 - get_or sums (length prefix) 0)
-          ≡ total_of prefix cycle m
-      folded m h =
-          let n : ℕ = length cycle in
-          let r : ℕ = (m - length prefix) % n in
-          rw turn_is
-          (omega (
-            arith,
-            total_folded timeless sound m h,
-            tab.at (length prefix + r) (omega (arith, mod-lt (m - length prefix) {m = n} ok.some_rate)),
-          ))
 
   -- ---- filling the table: i places are filled
   pub record Filled (sums : List ℕ) (sum i : ℕ) : Type 0 where
     pub size : length sums ≡ 49
     pub within : i ≤ length prefix + length cycle
-    pub is : sum ≡ total_of prefix cycle i
+    pub is : sum ≡ total timeless i
     pub most : sum ≤ 65535 * i
-    pub at : (j : ℕ) → j < suc i → get_or sums j 0 ≡ total_of prefix cycle j
+    pub at : (j : ℕ) → j < suc i → get_or sums j 0 ≡ total timeless j
     pub few : (j : ℕ) → j < i → rate_of prefix cycle j ≤ 65535
 
   pub filled_none : (sums : List ℕ) → length sums ≡ 49 → get_or sums 0 0 ≡ 0 → Filled sums 0 0
@@ -111,7 +69,7 @@ module _ (prefix cycle : List ℕ) where
   pub filled_more : (sums : List ℕ) (sum i r : ℕ) → Filled sums sum i → Listed prefix cycle → i < length prefix + length cycle
       → r ≡ rate_of prefix cycle i → r ≤ 65535 → Filled (set sums (i + 1) (sum + r)) (sum + r) (i + 1)
   filled_more sums sum i r f ok l e small =
-      let next : sum + r ≡ total_of prefix cycle (i + 1) = omega (arith, f.is, sum_suc (rate_of prefix cycle) i, ap (total_of prefix cycle) (add-one i)) in
+      let next : sum + r ≡ total timeless (i + 1) = omega (arith, f.is, sum_suc (rate_of prefix cycle) i, ap (total timeless) (add-one i)) in
       let room : i + 1 < length sums = omega (arith, f.size, ok.prefix_most, ok.cycle_most) in
       record {
         size = length-set sums (i + 1) (sum + r) ∙ f.size;
@@ -132,21 +90,96 @@ module _ (prefix cycle : List ℕ) where
         few = few_all ok (λ j h. f.few j (omega arith));
       }
 
+-- ---- the table of a party
+
+pub sound : {s : Side} → Limited s → Sound s
+sound l = record { some_tick = l.some_tick; fits = l.fits; some_rate = l.some_rate }
+
+-- what is known of a party that stands for s
+pub record Known (p : Inside) (s : Side) : Type 0 where
+  pub period : p.period ≡ s.period
+  pub prefix : p.prefix.now ≡ s.prefix
+  pub cycle : p.cycle.now ≡ s.cycle
+  pub limited : Limited s
+  pub tabled : Tabled s.prefix s.cycle p.sums
+
+pub known : {p : Inside} {s : Side} → side_of p ≡ s → Kept p → Known p s
+known {p} e k =
+    subst (Known p) e
+    record { period = refl; prefix = refl; cycle = refl; limited = k.limited; tabled = k.tabled }
+
+module _ {p : Inside} (k : Kept p) where
+  abbrev s : Side
+  s = side_of p
+
+  pub total_most : (m : ℕ) → total s m ≤ 65535 * m
+  total_most m = omega (arith, total_bound s 65535 k.tabled.few m)
+
+  pub rises : get_or p.sums (length p.prefix.now) 0 ≤ get_or p.sums (length p.prefix.now + length p.cycle.now) 0
+  rises =
+      omega (
+        arith,
+        k.tabled.at (length s.prefix) (omega arith),
+        k.tabled.at (length s.prefix + length s.cycle) (omega arith),
+        total_mono s (length s.prefix) (length s.prefix + length s.cycle) (omega arith),
+      )
+
+  pub turn_is : get_or p.sums (length p.prefix.now + length p.cycle.now) 0 - get_or p.sums (length p.prefix.now) 0 ≡ turn s
+  turn_is =
+      let one : length s.prefix + 1 * length s.cycle ≡ length s.prefix + length s.cycle = omega arith in
+      omega (
+        arith,
+        k.tabled.at (length s.prefix) (omega arith),
+        k.tabled.at (length s.prefix + length s.cycle) (omega arith),
+        ap (total s) one,
+        turns s (sound k.limited) (length s.prefix) 1 (omega arith),
+      )
+
+  pub turn_most : turn s ≤ 65535 * length s.cycle
+  turn_most =
+      let low = sum_mono (λ i. get_or s.cycle i 0) (λ _. 65535) (length s.cycle)
+      (λ j h.
+      let i : ℕ = length s.prefix + j in
+      let e : i - length s.prefix ≡ j = omega arith in
+      omega (arith, k.tabled.few i, entry_late s.prefix s.cycle i (omega arith) (omega arith), ap (λ x. get_or s.cycle x 0) e)) in
+      omega (arith, low, sum_const 65535 (length s.cycle))
+
+  -- past the prefix
+  pub folded :
+      (m : ℕ) → length p.prefix.now ≤ m
+      → get_or p.sums (length p.prefix.now + (m - length p.prefix.now) % length p.cycle.now) 0
+      + (m - length p.prefix.now) / length p.cycle.now * turn s
+      ≡ total s m
+  folded m h =
+      let n : ℕ = length s.cycle in
+      let r : ℕ = (m - length s.prefix) % n in
+      omega (
+        arith,
+        total_folded s (sound k.limited) m h,
+        k.tabled.at (length s.prefix + r) (omega (arith, mod-lt (m - length s.prefix) {m = n} k.limited.some_rate)),
+      )
+
+-- an entry of a part of the table
+pub part_is : {p : Inside} {s : Side} → Known p s → (from n i : ℕ) → i < n → from + i ≤ length s.prefix + length s.cycle
+    → get_or (take n (drop from p.sums)) i 0 ≡ total s (from + i)
+part_is {p} {s} k from n i h l =
+    get_or-take n (drop from p.sums) i 0 h ∙ get_or-drop from p.sums i 0 ∙ k.tabled.at (from + i) l
+
 -- ---- the search by halves
 
 pub mid_in : (low high : ℕ) → low < high → (low ≤ low + (high - low) / 2) × (low + (high - low) / 2 < high)
 mid_in low high h = (omega arith, omega (arith, div-lt_self {n = high - low} {k = 2} (omega arith) (omega arith)))
 
-module _ (prefix cycle : List ℕ) (have from to : ℕ) where
+module _ (s : Side) (have from to : ℕ) where
   -- no total below `low` is above `have`, and that with `high` is
   pub record Halved (low high : ℕ) : Type 0 where
     pub starts : from ≤ low
     pub order : low ≤ high
     pub ends : high < to
-    pub none : (j : ℕ) → from ≤ j → j < low → total_of prefix cycle (suc j) ≤ have
-    pub above : have < total_of prefix cycle (suc high)
+    pub none : (j : ℕ) → from ≤ j → j < low → total s (suc j) ≤ have
+    pub above : have < total s (suc high)
 
-  pub halved_start : from < to → have < total_of prefix cycle to → Halved from (to - 1)
+  pub halved_start : from < to → have < total s to → Halved from (to - 1)
   halved_start h l =
       let e : suc (to - 1) ≡ to = omega arith in
       record {
@@ -157,33 +190,33 @@ module _ (prefix cycle : List ℕ) (have from to : ℕ) where
         above = rw e l;
       }
 
-  module _ (low high : ℕ) (s : Halved low high) (mid : ℕ) (a : low ≤ mid) (b : mid < high) where
-    pub halved_high : have < total_of prefix cycle (mid + 1) → Halved low mid
+  module _ (low high : ℕ) (now : Halved low high) (mid : ℕ) (a : low ≤ mid) (b : mid < high) where
+    pub halved_high : have < total s (mid + 1) → Halved low mid
     halved_high h =
         record {
-          starts = s.starts;
+          starts = now.starts;
           order = a;
-          ends = omega (arith, s.ends);
-          none = s.none;
-          above = omega (arith, ap (total_of prefix cycle) (add-one mid));
+          ends = omega (arith, now.ends);
+          none = now.none;
+          above = omega (arith, ap (total s) (add-one mid));
         }
 
-    pub halved_low : total_of prefix cycle (mid + 1) ≤ have → Halved (mid + 1) high
+    pub halved_low : total s (mid + 1) ≤ have → Halved (mid + 1) high
     halved_low h =
         record {
-          starts = omega (arith, s.starts);
+          starts = omega (arith, now.starts);
           order = omega arith;
-          ends = s.ends;
-          none = λ j f l. omega (arith, total_mono (timeless prefix cycle) (suc j) (mid + 1) (omega arith));
-          above = s.above;
+          ends = now.ends;
+          none = λ j f l. omega (arith, total_mono s (suc j) (mid + 1) (omega arith));
+          above = now.above;
         }
 
-  pub halved_done : (low high : ℕ) → Halved low high → high ≤ low → Above prefix cycle have from to low
-  halved_done low high s h =
-      let e : high ≡ low = omega (arith, s.order) in
+  pub halved_done : (low high : ℕ) → Halved low high → high ≤ low → Above s have from to low
+  halved_done low high now h =
+      let e : high ≡ low = omega (arith, now.order) in
       record {
-        behind = s.starts;
-        before = omega (arith, s.ends);
-        above = subst (λ x. have < total_of prefix cycle (suc x)) e s.above;
-        none = s.none;
+        behind = now.starts;
+        before = omega (arith, now.ends);
+        above = subst (λ x. have < total s (suc x)) e now.above;
+        none = now.none;
       }

@@ -1,3 +1,4 @@
 pub mod Sides
 pub mod Tables
+pub mod Party
 pub mod Answers

@@ -1,12 +1,10 @@
 -- A channel in memory as the rule sees it, and what its judge may count on. Assumes nothing.
-use Rattle.std.specs.Prelude.{◌≡◌, List, ℕ, ◌*◌, ◌≤◌, length, get_or}
-use Rattle.numbers.specs.Numbers.{sum}
+use Rattle.std.specs.Prelude.{ℕ, ◌≤◌, length}
 use Rattle.graph.specs.declared.Task.{Task}
 use Rattle.graph.specs.Model.{Rates, max_prefix, max_cycle, million}
 use Rattle.graph.specs.Memory.{MemoryLink, MemoryRates, view_link}
 use Rattle.channel.specs.Side.{Side}
 use Rattle.channel.specs.Channel.{Channel}
-use Rattle.channels.specs.declared.Pace.{Pace}
 
 -- a task as one side of a channel; the window's length is given
 abbrev pub side : Task → ℕ → Rates → Side
@@ -21,14 +19,6 @@ joined_of c p q pwindow cwindow =
       initial = c.initial;
       size = c.size;
     }
-
--- the times of a side
-abbrev pub pace_of : Task → ℕ → Pace
-pace_of t window = record { period = t.period; offset = t.offset; window = window }
-
--- a side by its times and two lent lists
-abbrev pub side_of : Pace → List ℕ → List ℕ → Side
-side_of p prefix cycle = record { period = p.period; offset = p.offset; window = p.window; prefix = prefix; cycle = cycle }
 
 -- a channel of two sides
 abbrev pub joined_at : Side → Side → ℕ → ℕ → Channel
@@ -67,21 +57,3 @@ pub record Limited (s : Side) : Type 0 where
   pub offset_most : s.offset ≤ million
   pub prefix_most : length s.prefix ≤ max_prefix
   pub cycle_most : length s.cycle ≤ max_cycle
-
--- a channel in range
-pub record Weighable (ch : Channel) : Type 0 where
-  pub producer : Limited ch.producer
-  pub consumer : Limited ch.consumer
-  pub initial_most : ch.initial ≤ million
-  pub size_most : ch.size ≤ million
-
--- ---- what the functions hand back
-
--- what one turn of a cycle moves
-abbrev pub turn_of : List ℕ → ℕ
-turn_of cycle = sum (λ i. get_or cycle i 0) (length cycle)
-
--- r is that, and an entry is at most 65,535, the most that its 16 bits hold
-pub record Turned (cycle : List ℕ) (r : ℕ) : Type 0 where
-  pub is : r ≡ turn_of cycle
-  pub most : r ≤ 65535 * length cycle

@@ -1,35 +1,33 @@
 -- The tests of the channels, channel by channel. Assumes nothing.
 use mathlib.Core.Path.{◌≡◌, sym, ap, ap₂, subst, ◌∙◌}
 use mathlib.Core.List.{List}
-use mathlib.Core.Option.{none, some}
-use Prim.Native.Nat.{ℕ, ◌≤◌, ◌<◌}
+use Prim.Native.Nat.{ℕ, ◌<◌}
 use native.Mathlib.Omega.{arith}
-use lib.ListN.{length, get_or, take, length-map, get_or-map}
-use lib.Seq.{length-take-le, get_or-take}
+use lib.ListN.{length, get_or, length-map, get_or-map}
+use Rattle.std.specs.Prelude.{Result, Some, None, Ok, Err}
 use Rattle.numbers.specs.Lists.{All}
 use Rattle.numbers.proofs.Lists.{all_at}
-use Rattle.reply.specs.declared.Reply.{Reply}
+use Rattle.reply.specs.declared.Refusal.{Refusal}
 use Rattle.graph.specs.declared.Task.{Task}
-use Rattle.graph.specs.Model.{Graph, bare, link, task_of}
+use Rattle.graph.specs.Model.{Graph, no_task, bare, task, link, task_of}
 use Rattle.graph.specs.Memory.{MemoryLink, MemoryRates, view_link}
+use Rattle.format.specs.Ranges.{TaskRange}
 use Rattle.channel.specs.Judge.{Means}
 use Rattle.rules.specs.Terms.{window_of, joined, channel}
 use Rattle.rules.specs.Stages.{Earliest, At, Upto}
 use Rattle.rules.proofs.Find.{known, next_finds, place_finds, places_find}
 use Rattle.rules.proofs.Tests.{channel_finds}
-use Rattle.rules.proofs.Given.{task_is, times_at}
 use Rattle.formed.specs.Formed.{SideFormed, ChannelFormed}
 use Rattle.formed.proofs.Parts.{channel_sides, no_link}
 use Rattle.channels.specs.Sides.{Timed, Rated, Ready, side}
-use Rattle.checker.specs.declared.Outcome.TheVariants.{Passed, Refused}
 use Rattle.checker.specs.Outcome.{refusal, Behind}
-use Rattle.checker.specs.Channels.{between, Tells, Sound, Made}
+use Rattle.checker.specs.Channels.{between, Tells, Made}
 
 -- ---- what the judge of a channel counts on
 
-timed : (ts : List Task) (n : ℕ) → n ≤ length ts → Sound ts n → (i : ℕ) → i < n → Timed (task_of ts i) (window_of (task_of ts i))
-timed ts n few s i l =
-    let t = times_at ts n few s.ranged i l in
+timed : (ts : List Task) → All TaskRange ts → (i : ℕ) → i < length ts → Timed (task_of ts i) (window_of (task_of ts i))
+timed ts ranged i l =
+    let t : TaskRange (task_of ts i) = all_at TaskRange ts no_task ranged i l in
     record { some_tick = t.some_deadline; fits = t.deadline; period_most = t.period; offset_most = t.offset }
 
 rated : (r : MemoryRates) → SideFormed r → Rated r
@@ -38,13 +36,13 @@ rated r f =
     let c = ap (λ (x : MemoryRates). x.clen) f.padded in
     record { prefix_most = omega (arith, f.ranged.prefix); some_rate = omega (arith, f.ranged.some_entry); cycle_most = omega (arith, f.ranged.cycle) }
 
-pub ready : (ts : List Task) (n : ℕ) → n ≤ length ts → Sound ts n → (c : MemoryLink) → ChannelFormed n c
+pub ready : (ts : List Task) → All TaskRange ts → (c : MemoryLink) → ChannelFormed (length ts) c
     → Ready c (task_of ts c.producer) (task_of ts c.consumer) (window_of (task_of ts c.producer)) (window_of (task_of ts c.consumer))
-ready ts n few s c f =
-    let r = channel_sides n c f in
+ready ts ranged c f =
+    let r = channel_sides (length ts) c f in
     record {
-      producer = timed ts n few s c.producer f.ranged.producer;
-      consumer = timed ts n few s c.consumer f.ranged.consumer;
+      producer = timed ts ranged c.producer f.ranged.producer;
+      consumer = timed ts ranged c.consumer f.ranged.consumer;
       production = rated c.production r.0;
       consumption = rated c.consumption r.1;
       initial_most = f.ranged.initial;
@@ -53,28 +51,28 @@ ready ts n few s c f =
 
 -- ---- a channel of the graph
 
-module _ (ts : List Task) (n : ℕ) (cs : List MemoryLink) (m : ℕ) (long : m ≤ length cs) (formed : All (ChannelFormed n) (take m cs)) where
+module _ (ts : List Task) (cs : List MemoryLink) (formed : All (ChannelFormed (length ts)) cs) where
   -- channel c in memory
   abbrev pub stored : ℕ → MemoryLink
   stored c = get_or cs c no_link
 
-  pub formed_at : (c : ℕ) → c < m → ChannelFormed n (stored c)
-  formed_at c l = rw get_or-take at (all_at (ChannelFormed n) (take m cs) no_link formed c (omega (arith, length-take-le m cs long)))
+  formed_at : (c : ℕ) → c < length cs → ChannelFormed (length ts) (stored c)
+  formed_at c l = all_at (ChannelFormed (length ts)) cs no_link formed c l
 
-  module _ (room : ℕ) (g : Graph) (M : Made ts n cs m g) where
-    link_is : (c : ℕ) → c < m → link g c ≡ view_link (stored c)
+  module _ (room : ℕ) (g : Graph) (M : Made ts cs g) where
+    link_is : (c : ℕ) → link g c ≡ view_link (stored c)
     unfolding link
-    link_is c l =
-        ap (λ (x : List _). get_or x c (bare 0 0 0 0)) M.channels
-        ∙ get_or-map view_link (take m cs) c no_link
-        ∙ ap view_link (get_or-take m cs c no_link l)
+    link_is c = ap (λ (x : List _). get_or x c (bare 0 0 0 0)) M.channels ∙ get_or-map view_link cs c no_link
+
+    task_is : (i : ℕ) → task g i ≡ task_of ts i
+    unfolding task
+    task_is i = ap (λ l. task_of l i) M.tasks
 
     -- as the rules see it
-    channel_is : (c : ℕ) → c < m → channel g c ≡ between ts (stored c)
-    channel_is c l =
+    channel_is : (c : ℕ) → channel g c ≡ between ts (stored c)
+    channel_is c =
         let k = stored c in
-        let f = formed_at c l in
-        ap (joined g) (link_is c l)
+        ap (joined g) (link_is c)
         ∙ ap₂
         (λ (p q : Task). record {
           producer = side p (window_of p) (view_link k).production;
@@ -82,31 +80,31 @@ module _ (ts : List Task) (n : ℕ) (cs : List MemoryLink) (m : ℕ) (long : m �
           initial = k.initial;
           size = k.size;
         })
-        (task_is ts n g M.tasks k.producer f.ranged.producer)
-        (task_is ts n g M.tasks k.consumer f.ranged.consumer)
+        (task_is k.producer)
+        (task_is k.consumer)
 
-    many : length g.channels ≡ m
-    many = ap length M.channels ∙ length-map (take m cs) view_link ∙ length-take-le m cs long
+    many : length g.channels ≡ length cs
+    many = ap length M.channels ∙ length-map cs view_link
 
-    at : (c : ℕ) → c < m → (r : _) → Tells ts c (stored c) r → Earliest g room (At 13 c) (refusal r)
+    at : (c : ℕ) → c < length cs → (r : Result (Unit {0}) Refusal) → Tells ts c (stored c) r → Earliest g room (At 13 c) (refusal r)
     at c l r t =
         subst (Earliest g room (At 13 c)) (sym t.told)
-        (channel_finds g room M.usable c (omega (arith, many)) t.verdict (subst (λ x. Means x t.verdict) (sym (channel_is c l)) t.means))
+        (channel_finds g room M.usable c (omega (arith, many)) t.verdict (subst (λ x. Means x t.verdict) (sym (channel_is c)) t.means))
 
-    spoilt_here : (c : ℕ) (reply : Reply) → c < m → ((k : ℕ) → k < c → Tells ts k (stored k) Passed) → Tells ts c (stored c) (Refused reply)
-        → Earliest g room (Upto 13) none → Earliest g room (Upto 14) (some reply)
-    spoilt_here c reply l before t z =
-        next_finds g room 13 none (some reply) z (place_finds g room 13 c reply (λ k h. at k (omega arith) Passed (before k h)) (at c l (Refused reply) t))
+    spoilt_here : (c : ℕ) (r : Refusal) → c < length cs → ((k : ℕ) → k < c → Tells ts k (stored k) (Ok (tt {0}))) → Tells ts c (stored c) (Err r)
+        → Earliest g room (Upto 13) None → Earliest g room (Upto 14) (Some r)
+    spoilt_here c r l before t z =
+        next_finds g room 13 None (Some r) z (place_finds g room 13 c r (λ k h. at k (omega arith) (Ok (tt {0})) (before k h)) (at c l (Err r) t))
 
-    all_pass : ((k : ℕ) → k < m → Tells ts k (stored k) Passed) → Earliest g room (Upto 13) none → Earliest g room (Upto 14) none
+    all_pass : ((k : ℕ) → k < length cs → Tells ts k (stored k) (Ok (tt {0}))) → Earliest g room (Upto 13) None → Earliest g room (Upto 14) None
     all_pass every z =
-        next_finds g room 13 none none z
-        (places_find g room 13 m (λ s e h. omega (arith, many, (known g room s h).2 (omega arith))) (λ k h. at k h Passed (every k h)))
+        next_finds g room 13 None None z
+        (places_find g room 13 (length cs) (λ s e h. omega (arith, many, (known g room s h).2 (omega arith))) (λ k h. at k h (Ok (tt {0})) (every k h)))
 
   module _ (room : ℕ) where
-    pub spoilt : (c : ℕ) (reply : Reply) → c < m → ((k : ℕ) → k < c → Tells ts k (stored k) Passed) → Tells ts c (stored c) (Refused reply)
-        → Behind 13 14 room (Made ts n cs m) (Refused reply)
-    spoilt c reply l before t = record { so = λ g M. spoilt_here room g M c reply l before t }
+    pub spoilt : (c : ℕ) (r : Refusal) → c < length cs → ((k : ℕ) → k < c → Tells ts k (stored k) (Ok (tt {0}))) → Tells ts c (stored c) (Err r)
+        → Behind {A = Unit {0}} 13 14 room (Made ts cs) (Err r)
+    spoilt c r l before t = record { so = λ g M. spoilt_here room g M c r l before t }
 
-    pub fine : ((k : ℕ) → k < m → Tells ts k (stored k) Passed) → Behind 13 14 room (Made ts n cs m) Passed
+    pub fine : ((k : ℕ) → k < length cs → Tells ts k (stored k) (Ok (tt {0}))) → Behind {A = Unit {0}} 13 14 room (Made ts cs) (Ok (tt {0}))
     fine every = record { so = λ g M. all_pass room g M every }

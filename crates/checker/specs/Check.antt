@@ -1,7 +1,7 @@
 -- What a check says, and what it leaves in the report. Assumes nothing.
-use Rattle.std.specs.Prelude.{◌≡◌, List, [], ◌++◌, ℕ, length, drop}
-use Rattle.reply.specs.declared.Reply.{Reply}
-use Rattle.reply.specs.declared.Reply.TheVariants.{NoFile}
+use Rattle.std.specs.Prelude.{◌≡◌, Err, List, [], ◌++◌, ℕ, length, drop}
+use Rattle.reply.specs.declared.Refusal.TheVariants.{NoFile}
+use Rattle.reply.specs.Reply.{Reply}
 use Rattle.graph.specs.Model.{Graph}
 use Rattle.graph.specs.Memory.{Memory, view}
 use Rattle.formed.specs.Formed.{ReadsAs}
@@ -26,7 +26,7 @@ pub record ChecksFile (file before : List ℕ) (r : Reply) (after : List ℕ) : 
 
 -- The answer to a graph in memory: 18 where no file reads as it, and otherwise the answer to its lists.
 pub data MemoryAnswers (g : Memory) (room : ℕ) : Reply → List ℕ → Type 0 where
-  no_file : ((file : List ℕ) → ¬ ReadsAs file g) → MemoryAnswers g room NoFile []
+  no_file : ((file : List ℕ) → ¬ ReadsAs file g) → MemoryAnswers g room (Err NoFile) []
   judged : {r : Reply} {l : List ℕ} (file : List ℕ) → ReadsAs file g → Answers (view g) room r l → MemoryAnswers g room r l
 
 -- A graph in memory and a report before: the reply to the graph, and the report after.

@@ -1,16 +1,18 @@
 -- Each exported function has one outcome for one input. Assumes nothing.
-use mathlib.Core.Path.{◌≡◌, refl, ap, sym, subst, ◌∙◌}
+use mathlib.Core.Path.{◌≡◌, ap, sym, subst, ◌∙◌}
 use mathlib.Core.List.{List, ◌++◌}
 use Prim.Native.Nat.{ℕ}
 use lib.ListN.{length, drop}
-use Rattle.reply.specs.declared.Reply.{Reply}
+use Rattle.std.specs.Prelude.{Result, Ok, Err}
 use Rattle.reply.specs.declared.Numbers.{Numbers}
-use Rattle.reply.specs.Reply.{numbered, three}
+use Rattle.reply.specs.declared.Refusal.{Refusal}
+use Rattle.reply.specs.Reply.{Reply, numbered, three}
+use Rattle.graph.specs.Memory.{Memory}
 use Rattle.rules.proofs.Files.{file_determined}
 use Rattle.reader.specs.declared.Reading.{Reading}
 use Rattle.reader.proofs.Determined as reader
 use Rattle.writer.proofs.Writing as writer
-use Rattle.exports.specs.Exports.{Checked, Rewrites, refused, passed, Rewritten, Read}
+use Rattle.exports.specs.Exports.{Checked, Rewrites, Rewritten, Read}
 
 -- the same number, place and job
 pub record Same (n p j m q k : ℕ) : Type 0 where
@@ -40,12 +42,10 @@ module _ (file : List ℕ) (n p j m q k : ℕ) where
 
     pub rewrite_determined : Rewritten file before n p j after → Rewritten file before m q k other → Same n p j m q k × (after ≡ other)
     rewrite_determined a b =
-        let e = reader.determined file a.reading b.reading a.gives b.gives in
-        let d = one a.reading a.rewrites (subst (λ r. Rewrites r before b.reply other) (sym e) b.rewrites) in
+        let e = reader.parsed_once file a.parsed b.parsed a.parses b.parses in
+        let d = one a.parsed a.rewrites (subst (λ r. Rewrites r before b.reply other) (sym e) b.rewrites) in
         (same _ _ n p j m q k d.0 a.numbers b.numbers, d.1)
       where
-        one : (r : Reading) {s t : Reply} {u v : List ℕ} → Rewrites r before s u → Rewrites r before t v → (s ≡ t) × (u ≡ v)
-        one r (refused h) (refused g) = (refl, refl)
-        one r (refused h) (passed e w) = absurd (h e)
-        one r (passed e w) (refused g) = absurd (g e)
-        one r (passed e w) (passed f z) = writer.determined r.graph before w z
+        one : (r : Result Memory Refusal) {s t : Reply} {u v : List ℕ} → Rewrites r before s u → Rewrites r before t v → (s ≡ t) × (u ≡ v)
+        one (Ok g) w z = writer.determined g before w z
+        one (Err r) w z = (w.0 ∙ sym z.0, w.1 ∙ sym z.1)

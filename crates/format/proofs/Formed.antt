@@ -2,21 +2,22 @@
 use mathlib.Core.Path.{◌≡◌, refl, ap, sym, subst, ◌∙◌}
 use mathlib.Core.Logic.{◌↔◌}
 use mathlib.Core.Bool.{Bool, true, false, cond, ◌&&◌, false≢true}
-use mathlib.Core.Option.{Option, none, some}
 use mathlib.Core.List.{List, [], ◌∷◌, ◌++◌}
 use Prim.Native.Nat.{ℕ, zero, suc, ◌≤◌, ◌<◌}
 use native.Mathlib.Omega.{arith}
 use borrow.Author.Tests.{ltb-true, leb-true, lt-ltb, le-leb}
 use lib.Dec.{eqb, ltb, leb}
 use lib.ListN.{length, get_or, length-append}
+use Rattle.std.specs.Prelude.{Option, Some, None, is_none}
+use Rattle.std.proofs.lemmas.Bool.{and_parts}
 use Rattle.numbers.specs.Lists.{All, all}
 use Rattle.graph.specs.Model.{Rates, Link, Graph, max_tasks, max_channels, max_relations, max_prefix, max_cycle, bare}
 use Rattle.format.specs.Growth.{part_of, list_of, push_part, with_rates, push, change}
 use Rattle.format.specs.Record.{Record, task, channel, rate, relation}
 use Rattle.format.specs.Reader.{add, holds, ranges, InRange, count, limit, State, start, step, Good, AllGood, steps, cycles, Reads, first_zero}
-use Rattle.format.specs.Writer.{rates_from, records, bytes, Few, FewRates, Counts, Formed, few, is_none, formed}
+use Rattle.format.specs.Writer.{rates_from, records, bytes, Few, FewRates, Counts, Formed, few, formed}
 use Rattle.numbers.proofs.Lists.{all_append, all_map, all_yes, yes_all}
-use Rattle.format.proofs.Front.{both, in_yes, yes_in}
+use Rattle.format.proofs.Front.{in_yes, yes_in}
 use Rattle.format.proofs.Reading.{Zeros, first_zero_is, is_first_zero}
 use Rattle.format.proofs.Canon.{Below, last}
 use Rattle.format.proofs.Build.{formed_reads}
@@ -137,13 +138,13 @@ reads_formed file g m =
 
 -- ---- the test
 
-none_yes : (xs : List ℕ) (o : Option ℕ) → Zeros xs o → is_none o ≡ true → Zeros xs none
-none_yes xs none z e = z
-none_yes xs (some i) z e = absurd (false≢true e)
+none_yes : (xs : List ℕ) (o : Option ℕ) → Zeros xs o → is_none o ≡ true → Zeros xs None
+none_yes xs None z e = z
+none_yes xs (Some i) z e = absurd (false≢true e)
 
 few_yes : (r : Rates) → few r ≡ true → Few r
 few_yes r e =
-    let (a, b) = both (leb (length r.prefix) max_prefix) (leb (length r.cycle) max_cycle) e in
+    let (a, b) = and_parts (leb (length r.prefix) max_prefix) (leb (length r.cycle) max_cycle) e in
     record { prefix = leb-true (length r.prefix) max_prefix a; cycle = leb-true (length r.cycle) max_cycle b }
 
 yes_few : (r : Rates) → Few r → few r ≡ true
@@ -153,12 +154,12 @@ pub formed_yes : (g : Graph) → formed g ≡ true → Formed g
 unfolding formed
 formed_yes g e =
     let cs : List ℕ = cycles g.channels in
-    let (a, e₁) = both (all (λ r. all holds (ranges g r)) (records g)) _ e in
-    let (b, e₂) = both (leb (length g.tasks) max_tasks) _ e₁ in
-    let (c, e₃) = both (leb (length g.channels) max_channels) _ e₂ in
-    let (d, e₄) = both (leb (length g.relations) max_relations) _ e₃ in
-    let (f, e₅) = both (all (λ c. few c.production && few c.consumption) g.channels) _ e₄ in
-    let (h, i) = both (ltb 0 (length g.tasks)) (is_none (first_zero cs)) e₅ in
+    let (a, e₁) = and_parts (all (λ r. all holds (ranges g r)) (records g)) _ e in
+    let (b, e₂) = and_parts (leb (length g.tasks) max_tasks) _ e₁ in
+    let (c, e₃) = and_parts (leb (length g.channels) max_channels) _ e₂ in
+    let (d, e₄) = and_parts (leb (length g.relations) max_relations) _ e₃ in
+    let (f, e₅) = and_parts (all (λ c. few c.production && few c.consumption) g.channels) _ e₄ in
+    let (h, i) = and_parts (ltb 0 (length g.tasks)) (is_none (first_zero cs)) e₅ in
     record {
       in_range = all_yes (InRange g) (λ r. all holds (ranges g r)) (in_yes g) (records g) a;
       counts = record {
@@ -167,7 +168,7 @@ formed_yes g e =
         relations = leb-true (length g.relations) max_relations d;
         rates =
             all_yes FewRates (λ c. few c.production && few c.consumption)
-            (λ c q. let (x, y) = both (few c.production) (few c.consumption) q in record { production = few_yes c.production x; consumption = few_yes c.consumption y })
+            (λ c q. let (x, y) = and_parts (few c.production) (few c.consumption) q in record { production = few_yes c.production x; consumption = few_yes c.consumption y })
             g.channels f;
       };
       whole = record { some_task = ltb-true 0 (length g.tasks) h; some_entry = none_yes cs (first_zero cs) (first_zero_is cs) i };
@@ -183,7 +184,7 @@ yes_formed g F =
       le-leb (length g.relations) max_relations F.counts.relations,
       yes_all FewRates (λ c. few c.production && few c.consumption) (λ c f. rw (yes_few c.production f.production, yes_few c.consumption f.consumption)) g.channels F.counts.rates,
       lt-ltb 0 (length g.tasks) F.whole.some_task,
-      is_first_zero (cycles g.channels) none F.whole.some_entry,
+      is_first_zero (cycles g.channels) None F.whole.some_entry,
     )
 
 -- a graph that no file reads as, reply 18

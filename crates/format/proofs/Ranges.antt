@@ -21,7 +21,7 @@ phase_in : (z : ℤ) → Holds (signed z million) → nat_abs z ≤ million
 phase_in (pos n) h = h
 phase_in (negsuc n) h = omega arith
 
-in_phase : (z : ℤ) → nat_abs z ≤ million → Holds (signed z million)
+pub in_phase : (z : ℤ) → nat_abs z ≤ million → Holds (signed z million)
 in_phase (pos n) h = h
 in_phase (negsuc n) h = omega arith
 
@@ -30,7 +30,7 @@ module _ (g : Graph) where
   abbrev n : ℕ
   n = length g.tasks
 
-  task_in : (t : Task) → InRange g (rec.task t) → TaskRange t
+  pub task_in : (t : Task) → InRange g (rec.task t) → TaskRange t
   unfolding ranges
   task_in t h =
       record {
@@ -45,11 +45,11 @@ module _ (g : Graph) where
         priority = omega arith;
       }
 
-  in_task : (t : Task) → TaskRange t → InRange g (rec.task t)
+  pub in_task : (t : Task) → TaskRange t → InRange g (rec.task t)
   unfolding ranges
   in_task t h = omega arith
 
-  relation_in : (r : Relation) → InRange g (rec.relation r) → RelationRange n r
+  pub relation_in : (r : Relation) → InRange g (rec.relation r) → RelationRange n r
   unfolding ranges
   relation_in r (p, (q, (i, (f, (d, u))))) =
       record {
@@ -66,7 +66,7 @@ module _ (g : Graph) where
   unfolding ranges
   in_relation l r h = ((omega arith, omega arith), ((omega arith, omega arith), ((omega arith, omega arith), (in_phase r.phi h.phi, ((omega arith, omega arith), tt)))))
 
-  head_in : (c : Link) → InRange g (head c) → (c.producer < n) × (c.consumer < n) × (c.initial ≤ million) × (c.size ≤ million)
+  pub head_in : (c : Link) → InRange g (head c) → (c.producer < n) × (c.consumer < n) × (c.initial ≤ million) × (c.size ≤ million)
   unfolding ranges
   head_in c h = omega arith
 

@@ -2,7 +2,6 @@
 use mathlib.Core.Path.{◌≡◌, refl, ap, ap₂, sym, subst, ◌∙◌}
 use mathlib.Core.Logic.{◌↔◌}
 use mathlib.Core.Bool.{Bool, true, false, cond}
-use mathlib.Core.Option.{Option, none, some}
 use mathlib.Core.List.{List, [], ◌∷◌, ◌++◌, append_assoc, cons≢nil}
 use Prim.Native.Nat.{ℕ, zero, suc, ◌+◌, ◌≤◌, ◌<◌}
 use native.Mathlib.Nat.{add-zero, add_assoc, le_refl}
@@ -11,6 +10,7 @@ use borrow.Author.Tests.{eqb-true, eqb-false, eq-eqb, ne_eqb}
 use lib.Dec.{eqb}
 use lib.ListN.{length, get_or, take, drop, length-append, length-drop, take-append-drop}
 use lib.Seq.{take_at, drop_at, length-take-le}
+use Rattle.std.specs.Prelude.{Option, Some, None, option_map}
 use Rattle.numbers.specs.Lists.{First}
 use Rattle.format.specs.Record.{Kind, code, kind_of, size, Record, kind, body, encode, decode, encodes}
 use Rattle.format.specs.Reader.{State, start, step, Good, AllGood, steps, cycles, Answer, stopped, no_task, no_entry, taken, Ends, Means, Answers, Front, stops, passes, front, first_zero, finish, loop, read, Bytes}
@@ -25,10 +25,10 @@ abbrev pub ZeroAt : List ℕ → ℕ → Type 0
 ZeroAt xs i = get_or xs i 1 ≡ 0
 
 abbrev pub Zeros : List ℕ → Option ℕ → Type 0
-Zeros xs none = (i : ℕ) → ¬ ZeroAt xs i
-Zeros xs (some i) = First (ZeroAt xs) i
+Zeros xs None = (i : ℕ) → ¬ ZeroAt xs i
+Zeros xs (Some i) = First (ZeroAt xs) i
 
-zeros_none : (x : ℕ) (xs : List ℕ) → Zeros xs none → (i : ℕ) → ¬ ZeroAt (suc x ∷ xs) i
+zeros_none : (x : ℕ) (xs : List ℕ) → Zeros xs None → (i : ℕ) → ¬ ZeroAt (suc x ∷ xs) i
 zeros_none x xs f zero h = omega arith
 zeros_none x xs f (suc i) h = f i h
 
@@ -42,17 +42,17 @@ first_zero_is [] = λ i h. omega arith
 first_zero_is (zero ∷ xs) = (refl, λ j l. absurd (omega arith))
 first_zero_is (suc x ∷ xs) = go (first_zero xs) (first_zero_is xs)
   where
-    go : (o : Option ℕ) → Zeros xs o → Zeros (suc x ∷ xs) (elim o as (λ _. Option ℕ) [ none ↦ none | some i ↦ some (suc i) ])
-    go none f = zeros_none x xs f
-    go (some i) f = (f.0, zeros_before x xs i f.1)
+    go : (o : Option ℕ) → Zeros xs o → Zeros (suc x ∷ xs) (option_map suc o)
+    go None f = zeros_none x xs f
+    go (Some i) f = (f.0, zeros_before x xs i f.1)
 
 zeros_same : (xs : List ℕ) (o p : Option ℕ) → Zeros xs o → Zeros xs p → o ≡ p
-zeros_same xs none none f h = refl
-zeros_same xs none (some i) f h = absurd (f i h.0)
-zeros_same xs (some i) none f h = absurd (h i f.0)
-zeros_same xs (some i) (some j) f h =
+zeros_same xs None None f h = refl
+zeros_same xs None (Some i) f h = absurd (f i h.0)
+zeros_same xs (Some i) None f h = absurd (h i f.0)
+zeros_same xs (Some i) (Some j) f h =
     cases i j
-    (λ l. cases j i (λ m. ap some (omega arith)) (λ m. absurd (h.1 i m f.0)))
+    (λ l. cases j i (λ m. ap Some (omega arith)) (λ m. absurd (h.1 i m f.0)))
     (λ l. absurd (f.1 j l h.0))
 
 pub is_first_zero : (xs : List ℕ) (o : Option ℕ) → Zeros xs o → first_zero xs ≡ o
@@ -65,21 +65,21 @@ unfolding finish
 finish_is s at = go (eqb (length s.graph.tasks) 0) refl (first_zero (cycles s.graph.channels)) (first_zero_is (cycles s.graph.channels))
   where
     go : (b : Bool) → eqb (length s.graph.tasks) 0 ≡ b → (o : Option ℕ) → Zeros (cycles s.graph.channels) o
-        → Ends s at [] (cond b no_task (elim o as (λ _. Answer) [ none ↦ taken s.graph | some i ↦ no_entry i ]))
+        → Ends s at [] (cond b no_task (elim o as (λ _. Answer) [ None ↦ taken s.graph | Some i ↦ no_entry i ]))
     go true e o z = (refl, eqb-true (length s.graph.tasks) 0 e)
-    go false e none z = (refl, record { some_task = omega (arith, eqb-false (length s.graph.tasks) 0 e); some_entry = z }, refl)
-    go false e (some i) z = (refl, omega (arith, eqb-false (length s.graph.tasks) 0 e), z)
+    go false e None z = (refl, record { some_task = omega (arith, eqb-false (length s.graph.tasks) 0 e); some_entry = z }, refl)
+    go false e (Some i) z = (refl, omega (arith, eqb-false (length s.graph.tasks) 0 e), z)
 
 is_finish : (s : State) (at : ℕ) (a : Answer) → Ends s at [] a → finish s.graph ≡ a
 unfolding finish
 is_finish s at (stopped t place) h = absurd h.0
 is_finish s at no_task h = rw (eq-eqb (length s.graph.tasks) 0 h.1)
 is_finish s at (no_entry i) h =
-    rw (ne_eqb (length s.graph.tasks) 0 (λ e. omega (arith, h.1)), is_first_zero (cycles s.graph.channels) (some i) h.2)
+    rw (ne_eqb (length s.graph.tasks) 0 (λ e. omega (arith, h.1)), is_first_zero (cycles s.graph.channels) (Some i) h.2)
 is_finish s at (taken g) h =
     rw (
       ne_eqb (length s.graph.tasks) 0 (λ e. omega (arith, h.1.some_task)),
-      is_first_zero (cycles s.graph.channels) none h.1.some_entry,
+      is_first_zero (cycles s.graph.channels) None h.1.some_entry,
     )
     (ap taken h.2)
 
@@ -115,8 +115,8 @@ pub passed : (s : State) (b : ℕ) (bs : List ℕ) (r : Record) → Bytes bs →
 passed s b bs r h w = go (kind_of b) refl w
   where
     go : (o : Option Kind) → kind_of b ≡ o → Says s o bs (passes r) → Good s r × (b ∷ bs ≡ encode r ++ drop (size (kind r)) bs)
-    go none e w = absurd w
-    go (some k) e (is, long, good) = (
+    go None e w = absurd w
+    go (Some k) e (is, long, good) = (
       good,
       ap₂ (λ (x : ℕ) (xs : List ℕ). x ∷ xs) (code_kind b k e) (sym (take-append-drop (size k) bs))
           ∙ ap₂ (λ (l : List ℕ) (n : ℕ). l ++ drop n bs)

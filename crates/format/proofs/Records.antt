@@ -1,7 +1,6 @@
 -- A record in range is what its bytes hold, and bytes are those of the record that they hold. Assumes nothing.
 use mathlib.Core.Path.{◌≡◌, refl, ap, ap₂, sym, ◌∙◌}
 use mathlib.Core.Bool.{Bool, true, false, cond}
-use mathlib.Core.Option.{Option, none, some}
 use mathlib.Core.List.{List, [], ◌∷◌, ◌++◌, append_assoc, append-nil}
 use Prim.Native.Nat.{ℕ, ◌-◌, ◌<◌}
 use native.Mathlib.Omega.{arith}
@@ -9,6 +8,7 @@ use borrow.Author.Tests.{lt-ltb, le-ltb, eqb-true}
 use lib.Dec.{ltb, eqb}
 use lib.IntN.{ℤ, pos, negsuc}
 use lib.ListN.{length}
+use Rattle.std.specs.Prelude.{Option, Some, None}
 use Rattle.graph.specs.Model.{Graph, million}
 use Rattle.format.specs.Record.{wrap, unwrap, split, Kind, a_task, a_channel, a_rate, a_relation, code, kind_of, widths, size, Record, task, channel, rate, relation, kind, values, body, encode, encodes, decode, record_of}
 use Rattle.format.specs.Reader.{signed, Holds, ranges, InRange, Bytes}
@@ -35,24 +35,24 @@ wrap_below (negsuc n) h = omega arith
 
 -- ---- kinds
 
-pub kind_code : (k : Kind) → kind_of (code k) ≡ some k
+pub kind_code : (k : Kind) → kind_of (code k) ≡ Some k
 unfolding kind_of
 kind_code a_task = refl
 kind_code a_channel = refl
 kind_code a_rate = refl
 kind_code a_relation = refl
 
-pub code_kind : (n : ℕ) (k : Kind) → kind_of n ≡ some k → n ≡ code k
+pub code_kind : (n : ℕ) (k : Kind) → kind_of n ≡ Some k → n ≡ code k
 unfolding kind_of
 code_kind n k e =
     go (eqb n 1) (eqb n 2) (eqb n 3) (eqb n 4) (eqb-true n 1) (eqb-true n 2) (eqb-true n 3) (eqb-true n 4) e
   where
-    is : (b : Bool) (m : Kind) (o : Option Kind) → (b ≡ true → n ≡ code m) → (o ≡ some k → n ≡ code k) → cond b (some m) o ≡ some k → n ≡ code k
+    is : (b : Bool) (m : Kind) (o : Option Kind) → (b ≡ true → n ≡ code m) → (o ≡ Some k → n ≡ code k) → cond b (Some m) o ≡ Some k → n ≡ code k
     is true m o p f e = let q : m ≡ k = cc in p refl ∙ ap code q
     is false m o p f e = f e
 
     go : (a b c d : Bool) → (a ≡ true → n ≡ 1) → (b ≡ true → n ≡ 2) → (c ≡ true → n ≡ 3) → (d ≡ true → n ≡ 4)
-        → cond a (some a_task) (cond b (some a_channel) (cond c (some a_rate) (cond d (some a_relation) none))) ≡ some k → n ≡ code k
+        → cond a (Some a_task) (cond b (Some a_channel) (cond c (Some a_rate) (cond d (Some a_relation) None))) ≡ Some k → n ≡ code k
     go a b c d p q r s =
         is a a_task _ p (is b a_channel _ q (is c a_rate _ r (is d a_relation _ s
         (λ e. let f : ◌≡◌ {A = ℕ} 0 1 = cc in absurd (omega arith)))))

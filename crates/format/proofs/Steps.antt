@@ -1,7 +1,6 @@
 -- The reader's loop, at a place of the file: what a step, a stop and the end come to. Assumes nothing.
 use mathlib.Core.Path.{◌≡◌, refl, ap, ◌∙◌}
 use mathlib.Core.Logic.{◌↔◌, ◌⊎◌, inl, inr}
-use mathlib.Core.Option.{none, some}
 use mathlib.Core.List.{List, [], ◌∷◌, ◌++◌}
 use Prim.Native.Nat.{ℕ, zero, suc, ◌+◌, ◌*◌, ◌/◌, ◌%◌, ◌^◌, ◌≤◌, ◌<◌}
 use native.Mathlib.Nat.{add-zero, pow-suc}
@@ -9,6 +8,7 @@ use native.Mathlib.Numerals.{add-one}
 use native.Mathlib.Omega.{arith}
 use lib.ListN.{length, get_or, take, drop, length-append, length-drop, drop_of_length-le}
 use lib.Seq.{drop-cons, drop-drop, take-suc, get_or-drop}
+use Rattle.std.specs.Prelude.{Some, None}
 use Rattle.graph.specs.Model.{Link, bare}
 use Rattle.format.specs.Growth.{list_of}
 use Rattle.format.specs.Record.{be, number, split, total, Kind, kind_of, size, Record, kind, encode, decode, digits, rank}
@@ -35,7 +35,7 @@ module _ (file : List ℕ) (s : State) (at : ℕ) (L : Leads file s at) where
     pub leads_stop : (t : Test) → FirstTest (Fires s (kind_of (get_or file at 0)) behind) t → Answers file (stopped t at)
     leads_stop t f = L.so (stopped t at) (rw (drop-cons file at 0 more) (here s at (get_or file at 0 ∷ behind) (stopped t at) (f, refl)))
 
-    module _ (k : Kind) (known : kind_of (get_or file at 0) ≡ some k) where
+    module _ (k : Kind) (known : kind_of (get_or file at 0) ≡ Some k) where
       abbrev r : Record
       r = decode k (take (size k) behind)
 
@@ -62,7 +62,7 @@ module _ (file : List ℕ) (s : State) (at : ℕ) (L : Leads file s at) where
       is_cut h =
           rw known (
             h,
-            none_before (Fires s (some k) behind) 2
+            none_before (Fires s (Some k) behind) 2
                 (λ _ x. x) (λ l. absurd (omega arith)) (λ l. absurd (omega arith)) (λ l. absurd (omega arith)) (λ l. absurd (omega arith)),
           )
 
@@ -71,7 +71,7 @@ module _ (file : List ℕ) (s : State) (at : ℕ) (L : Leads file s at) where
         is_down h =
             rw known (
               h,
-              none_before (Fires s (some k) behind) 3
+              none_before (Fires s (Some k) behind) 3
                   (λ _ x. x) (λ _ x. omega arith) (λ l. absurd (omega arith)) (λ l. absurd (omega arith)) (λ l. absurd (omega arith)),
             )
 
@@ -80,7 +80,7 @@ module _ (file : List ℕ) (s : State) (at : ℕ) (L : Leads file s at) where
           is_range h =
               rw known (
                 h,
-                none_before (Fires s (some k) behind) 4
+                none_before (Fires s (Some k) behind) 4
                     (λ _ x. x) (λ _ x. omega arith) (λ _ x. omega arith) (λ l. absurd (omega arith)) (λ l. absurd (omega arith)),
               )
 
@@ -88,11 +88,11 @@ module _ (file : List ℕ) (s : State) (at : ℕ) (L : Leads file s at) where
           is_full i h =
               rw known (
                 h,
-                none_before (Fires s (some k) behind) 5
+                none_before (Fires s (Some k) behind) 5
                     (λ _ x. x) (λ _ x. omega arith) (λ _ x. omega arith) (λ _ x. x i) (λ l. absurd (omega arith)),
               )
 
-    pub is_unknown : kind_of (get_or file at 0) ≡ none → FirstTest (Fires s (kind_of (get_or file at 0)) behind) unknown
+    pub is_unknown : kind_of (get_or file at 0) ≡ None → FirstTest (Fires s (kind_of (get_or file at 0)) behind) unknown
     is_unknown e =
         rw e (
           tt,

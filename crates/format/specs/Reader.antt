@@ -1,8 +1,8 @@
 -- What a reader of graph files answers: the tests of a record, what each answer means, and how it is computed. Assumes nothing.
-use Rattle.std.specs.Prelude.{◌≡◌, Bool, cond, ◌&&◌, List, [], ◌∷◌, ◌++◌, ℕ, zero, suc, ◌+◌, ◌≤◌, ◌<◌, eqb, ltb, leb, ℤ, pos, negsuc, length, get_or, take, drop}
-use Rattle.std.proofs.Math.Option.{Option, none, some}
-use Rattle.reply.specs.declared.Reply.{Reply}
-use Rattle.reply.specs.declared.Reply.TheVariants.{Accepted, UnknownKind, CutShort, OutOfOrder, OutOfRange, TooMany, NoTask, EmptyCycle}
+use Rattle.std.specs.Prelude.{◌≡◌, Bool, cond, ◌&&◌, Option, Some, None, option_map, Ok, Err, List, [], ◌∷◌, ◌++◌, ℕ, zero, suc, ◌+◌, ◌≤◌, ◌<◌, eqb, ltb, leb, ℤ, pos, negsuc, length, get_or, take, drop}
+use Rattle.reply.specs.declared.Refusal.{Refusal}
+use Rattle.reply.specs.Reply.{Reply}
+use Rattle.reply.specs.declared.Refusal.TheVariants.{UnknownKind, CutShort, OutOfOrder, OutOfRange, TooMany, NoTask, EmptyCycle}
 use Rattle.graph.specs.Model.{Link, Graph, empty, max_tasks, max_channels, max_relations, max_prefix, max_cycle, million, bare}
 use Rattle.format.specs.Growth.{with_tasks, with_channels, with_relations, entries, push, change}
 use Rattle.numbers.specs.Lists.{All, all, First}
@@ -121,12 +121,12 @@ test_number full = 5
 
 -- What each test says of a record, given by its kind and the bytes behind that. Of an unknown kind there is nothing to say but that, and the first test says it.
 abbrev pub Fires : State → Option Kind → List ℕ → Test → Type 0
-Fires s none bs t = Unit {0}
-Fires s (some k) bs unknown = ⊥
-Fires s (some k) bs cut = length bs < size k
-Fires s (some k) bs down = rank (decode k (take (size k) bs)) < s.floor
-Fires s (some k) bs range = ¬ InRange s.graph (decode k (take (size k) bs))
-Fires s (some k) bs full = limit (decode k (take (size k) bs)) ≤ count s.graph (decode k (take (size k) bs))
+Fires s None bs t = Unit {0}
+Fires s (Some k) bs unknown = ⊥
+Fires s (Some k) bs cut = length bs < size k
+Fires s (Some k) bs down = rank (decode k (take (size k) bs)) < s.floor
+Fires s (Some k) bs range = ¬ InRange s.graph (decode k (take (size k) bs))
+Fires s (Some k) bs full = limit (decode k (take (size k) bs)) ≤ count s.graph (decode k (take (size k) bs))
 
 -- t is the first test that fires.
 abbrev pub FirstTest : (Test → Type 0) → Test → Type 0
@@ -185,8 +185,8 @@ pub data Answer : Type 0 where
   no_entry : ℕ → Answer
   taken : Graph → Answer
 
--- the reply of a test that fires at a place
-abbrev pub stop_reply : Test → ℕ → Reply
+-- the refusal of a test that fires at a place
+abbrev pub stop_reply : Test → ℕ → Refusal
 stop_reply unknown place = UnknownKind place
 stop_reply cut place = CutShort place
 stop_reply down place = OutOfOrder place
@@ -195,10 +195,10 @@ stop_reply full place = TooMany place
 
 -- the reply of each answer
 abbrev pub reply : Answer → Reply
-reply (stopped t place) = stop_reply t place
-reply no_task = NoTask
-reply (no_entry place) = EmptyCycle place
-reply (taken g) = Accepted (length g.tasks)
+reply (stopped t place) = Err (stop_reply t place)
+reply no_task = Err NoTask
+reply (no_entry place) = Err (EmptyCycle place)
+reply (taken g) = Ok (length g.tasks)
 
 -- the graph that the reader hands back
 abbrev pub graph_of : Answer → Graph
@@ -243,8 +243,8 @@ pub data Front : Type 0 where
 
 -- the tests in their order
 unfoldable pub front : State → Option Kind → List ℕ → Front
-front s none bs = stops unknown
-front s (some k) bs =
+front s None bs = stops unknown
+front s (Some k) bs =
     let r : Record = decode k (take (size k) bs) in
     cond (ltb (length bs) (size k)) (stops cut)
     (cond (ltb (rank r) s.floor) (stops down)
@@ -254,15 +254,15 @@ front s (some k) bs =
 
 -- the first place of a list where there stands 0
 unfoldable pub first_zero : List ℕ → Option ℕ
-first_zero [] = none
-first_zero (zero ∷ xs) = some 0
-first_zero (suc x ∷ xs) = elim (first_zero xs) [ none ↦ none | some i ↦ some (suc i) ]
+first_zero [] = None
+first_zero (zero ∷ xs) = Some 0
+first_zero (suc x ∷ xs) = option_map suc (first_zero xs)
 
 -- the tests of the whole graph in their order
 unfoldable pub finish : Graph → Answer
 finish g =
     cond (eqb (length g.tasks) 0) no_task
-    (elim (first_zero (cycles g.channels)) [ none ↦ taken g | some i ↦ no_entry i ])
+    (elim (first_zero (cycles g.channels)) [ None ↦ taken g | Some i ↦ no_entry i ])
 
 -- record by record, at byte `at`; each record has at least one byte, so as many rounds as there are bytes are enough
 unfoldable pub loop : ℕ → State → ℕ → List ℕ → Answer

@@ -1,6 +1,5 @@
 -- Records and their bytes. Assumes nothing.
-use Rattle.std.specs.Prelude.{cond, List, [], ◌∷◌, ◌++◌, ℕ, zero, suc, ◌+◌, ◌*◌, ◌-◌, ◌/◌, ◌%◌, ◌^◌, eqb, ltb, ℤ, pos, negsuc, length, get_or, take, drop}
-use Rattle.std.proofs.Math.Option.{Option, none, some}
+use Rattle.std.specs.Prelude.{cond, Option, Some, None, List, [], ◌∷◌, ◌++◌, ℕ, zero, suc, ◌+◌, ◌*◌, ◌-◌, ◌/◌, ◌%◌, ◌^◌, eqb, ltb, ℤ, pos, negsuc, length, get_or, take, drop}
 use Rattle.graph.specs.declared.Task.{Task}
 use Rattle.graph.specs.declared.Relation.{Relation}
 
@@ -57,12 +56,12 @@ code a_relation = 4
 -- the kind of a byte, if it has one
 unfoldable pub kind_of : ℕ → Option Kind
 kind_of k =
-    cond (eqb k 1) (some a_task)
-    (cond (eqb k 2) (some a_channel)
-    (cond (eqb k 3) (some a_rate)
-    (cond (eqb k 4) (some a_relation) none)))
+    cond (eqb k 1) (Some a_task)
+    (cond (eqb k 2) (Some a_channel)
+    (cond (eqb k 3) (Some a_rate)
+    (cond (eqb k 4) (Some a_relation) None)))
 
--- the widths of the fields in order: the table of document 01
+-- the widths of the fields in order
 abbrev pub widths : Kind → List ℕ
 widths a_task = 4 ∷ 4 ∷ 4 ∷ 4 ∷ 1 ∷ []
 widths a_channel = 1 ∷ 1 ∷ 4 ∷ 4 ∷ []

@@ -1,6 +1,5 @@
 -- The file of a graph, and which graphs have one. Assumes nothing.
-use Rattle.std.specs.Prelude.{Bool, true, false, ◌&&◌, List, [], ◌∷◌, ◌++◌, map, ℕ, suc, ◌≤◌, ltb, leb, length}
-use Rattle.std.proofs.Math.Option.{Option, none, some}
+use Rattle.std.specs.Prelude.{Bool, ◌&&◌, is_none, List, [], ◌∷◌, ◌++◌, map, ℕ, suc, ◌≤◌, ltb, leb, length}
 use Rattle.numbers.specs.Lists.{All, all}
 use Rattle.graph.specs.Model.{Rates, Link, Graph, max_tasks, max_channels, max_relations, max_prefix, max_cycle}
 use Rattle.format.specs.Record.{Record, task, channel, rate, relation, encodes}
@@ -59,11 +58,6 @@ pub record Formed (g : Graph) : Type 0 where
 -- `Few` as a test
 abbrev pub few : Rates → Bool
 few r = leb (length r.prefix) max_prefix && leb (length r.cycle) max_cycle
-
--- nothing found
-abbrev pub is_none : Option ℕ → Bool
-is_none none = true
-is_none (some i) = false
 
 -- `Formed` as a test
 unfoldable pub formed : Graph → Bool

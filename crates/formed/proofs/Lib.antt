@@ -1,7 +1,4 @@
-pub mod Tells
 pub mod Parts
-pub mod Zero
-pub mod Phase
 pub mod Whole
 pub mod Exact
 pub mod Counts

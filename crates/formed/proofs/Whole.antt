@@ -1,6 +1,7 @@
 -- A graph in memory is well formed where its counts and its places are, and just there. Assumes nothing.
 use mathlib.Core.Path.{◌≡◌, refl, ap, ap₂, sym, subst, ◌∙◌}
 use mathlib.Core.List.{List, [], ◌∷◌, map}
+use Rattle.std.proofs.Common.{Bool, IsTrue, ◌↔◌}
 use Prim.Native.Nat.{ℕ, ◌≤◌}
 use native.Mathlib.Omega.{arith}
 use lib.ListN.{length, take, length-take, length-map}
@@ -103,3 +104,6 @@ module _ (g : Memory) where
           used = subst (λ n. All (RelationRange n) (take g.nrelations g.relations)) (sym a) R.relations;
         };
       }
+
+  pub well_told : {b : Bool} → IsTrue b ↔ Told g → IsTrue b ↔ WellFormed g
+  well_told t = (λ h. well_yes (t.0 h), λ w. t.1 (well_no w))

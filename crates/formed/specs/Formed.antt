@@ -1,5 +1,5 @@
 -- The graphs in memory that some file reads as. Assumes nothing.
-use Rattle.std.specs.Prelude.{◌≡◌, Bool, true, false, List, ℕ, ◌≤◌, ◌<◌, length, take, replicate}
+use Rattle.std.specs.Prelude.{◌≡◌, List, ℕ, take}
 use Rattle.numbers.specs.Lists.{All}
 use Rattle.graph.specs.Model.{Graph}
 use Rattle.graph.specs.Memory.{Memory, MemoryLink, MemoryRates, view, view_link, view_rates, pad, laid, laid_link, laid_rates}
@@ -18,16 +18,7 @@ pub record ReadsAs (file : List ℕ) (g : Memory) : Type 0 where
   pub reads : Reads file model
   pub same : g ≡ laid model
 
--- a test's answer: true exactly where the fact holds
-pub record Tells (P : Type 0) (answer : Bool) : Type 0 where
-  pub yes : answer ≡ true → P
-  pub no : answer ≡ false → ¬ P
-
 -- ---- the same part by part
-
--- each element is zero
-abbrev pub Zeros : List ℕ → Type 0
-Zeros xs = xs ≡ replicate (length xs) 0
 
 -- a side with zeros behind its lists, and those in range
 pub record SideFormed (s : MemoryRates) : Type 0 where
@@ -38,11 +29,6 @@ pub record SideFormed (s : MemoryRates) : Type 0 where
 pub record ChannelFormed (count : ℕ) (c : MemoryLink) : Type 0 where
   pub padded : c ≡ laid_link (view_link c)
   pub ranged : LinkRange count (view_link c)
-
--- what is asked of place i, which holds x, where n are used
-pub record Place {A : Type 0} (P : A → Type 0) (zero : A) (n i : ℕ) (x : A) : Type 0 where
-  pub used : i < n → P x
-  pub unused : n ≤ i → x ≡ zero
 
 -- an array of so many places: the first n each as P says, and zero behind them
 pub record Places {A : Type 0} (P : A → Type 0) (places : ℕ) (zero : A) (n : ℕ) (xs : List A) : Type 0 where

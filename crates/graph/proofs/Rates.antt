@@ -1,18 +1,14 @@
--- Where a rate stands, case by case: in the prefix, in the cycle, past a side whose cycle is empty. Assumes nothing.
+-- Where a rate stands: in the cycle, by its turns. Assumes nothing.
 use mathlib.Core.Path.{◌≡◌, sym, ◌∙◌, ap₂}
 use mathlib.Core.List.{List}
 use Prim.Native.Nat.{ℕ, ◌-◌, ◌%◌, ◌≤◌, ◌<◌}
 use native.Mathlib.Nat.{mod-eq_of_lt}
 use native.Mathlib.Omega.{arith}
-use borrow.Author.Tests.{lt-ltb, le-ltb, eq-eqb, ne_eqb}
-use lib.ListN.{length, get_or, get_or-eq_default}
+use borrow.Author.Tests.{le-ltb, ne_eqb}
+use lib.ListN.{length, get_or}
 use Rattle.graph.specs.Rates.{list_of, place_in, place_of, rate_of}
 
 module _ (prefix cycle : List ℕ) (m : ℕ) where
-  pub in_prefix : m < length prefix → prefix ≡ list_of prefix cycle m
-  unfolding list_of
-  in_prefix h = rw (lt-ltb m (length prefix) h)
-
   pub in_cycle : length prefix ≤ m → cycle ≡ list_of prefix cycle m
   unfolding list_of
   in_cycle h = rw (le-ltb m (length prefix) h)
@@ -22,22 +18,11 @@ module _ (prefix cycle : List ℕ) (m : ℕ) where
     unfolding rate_of
     rate_is = ap₂ (λ (x : List ℕ) (i : ℕ). get_or x i 0) l p
 
-    pub no_rate : length list ≤ place → 0 ≡ rate_of prefix cycle m
-    no_rate h = sym (get_or-eq_default list 0 h) ∙ rate_is
-
 -- by the lengths p and c of prefix and cycle
 module _ (p c m : ℕ) where
-  pub place_in_prefix : m < p → m ≡ place_in p c m
-  unfolding place_in
-  place_in_prefix h = rw (lt-ltb m p h)
-
   pub place_in_cycle : p ≤ m → 0 < c → (m - p) % c ≡ place_in p c m
   unfolding place_in
   place_in_cycle h k = rw (le-ltb m p h, ne_eqb c 0 (λ e. omega arith))
 
   pub place_first_turn : p ≤ m → m - p < c → m - p ≡ place_in p c m
   place_first_turn h k = sym (mod-eq_of_lt {n = m - p} {m = c} k) ∙ place_in_cycle h (omega arith)
-
-  pub place_in_none : p ≤ m → c ≤ 0 → 0 ≡ place_in p c m
-  unfolding place_in
-  place_in_none h k = rw (le-ltb m p h, eq-eqb c 0 (omega arith))

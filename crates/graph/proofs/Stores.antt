@@ -1,10 +1,11 @@
 -- A store into memory, and the lists that it stands for then. Assumes nothing.
-use mathlib.Core.Path.{◌≡◌, refl, sym, ap, subst, ◌∙◌}
+use mathlib.Core.Path.{◌≡◌, sym, ap, subst, ◌∙◌}
 use mathlib.Core.List.{List, [], ◌∷◌, ◌++◌, map}
-use Prim.Native.Nat.{ℕ, zero, suc, ◌+◌, ◌-◌, ◌<◌}
+use Prim.Native.Nat.{ℕ, ◌+◌, ◌-◌, ◌<◌}
 use native.Mathlib.Omega.{arith}
 use lib.ListN.{length, get_or, set, replicate, length-append, length-map, length-set}
 use lib.Seq.{set-append_left}
+use Rattle.std.proofs.lemmas.List.{map-append, map-set, get_or-map}
 use Rattle.graph.specs.declared.Task.{Task}
 use Rattle.graph.specs.declared.Relation.{Relation}
 use Rattle.graph.specs.Model.{Rates, Link, Graph, no_task, no_relation, bare}
@@ -23,21 +24,6 @@ module _ {A : Type 0} where
   pad_set n z xs i x h =
       set-append_left xs (replicate (n - length xs) z) i x h
       ∙ ap (λ m. set xs i x ++ replicate (n - m) z) (sym (length-set xs i x))
-
-module _ {A B : Type 0} (f : A → B) where
-  map_snoc : (xs : List A) (x : A) → map f (xs ++ (x ∷ [])) ≡ map f xs ++ (f x ∷ [])
-  map_snoc [] x = refl
-  map_snoc (y ∷ xs) x = ap (λ l. f y ∷ l) (map_snoc xs x)
-
-  map_set : (xs : List A) (i : ℕ) (x : A) → map f (set xs i x) ≡ set (map f xs) i (f x)
-  map_set [] i x = refl
-  map_set (y ∷ xs) zero x = refl
-  map_set (y ∷ xs) (suc i) x = ap (λ l. f y ∷ l) (map_set xs i x)
-
-  get_d_map : (xs : List A) (i : ℕ) (d : B) (z : A) → i < length xs → get_or (map f xs) i d ≡ f (get_or xs i z)
-  get_d_map [] i d z h = absurd (omega arith)
-  get_d_map (y ∷ xs) zero d z h = refl
-  get_d_map (y ∷ xs) (suc i) d z h = get_d_map xs i d z (omega arith)
 
 -- ---- rates
 
@@ -110,7 +96,7 @@ module _ (m : Memory) (g : Graph) (e : m ≡ laid g) where
       let q : set (pad 64 zero_link cs) (length g.channels) (laid_link c) ≡ pad 64 zero_link (map laid_link (g.channels ++ (c ∷ []))) =
       ap (λ k. set (pad 64 zero_link cs) k (laid_link c)) n
       ∙ pad_push 64 zero_link cs (laid_link c) (omega arith)
-      ∙ ap (pad 64 zero_link) (sym (map_snoc laid_link g.channels c)) in
+      ∙ ap (pad 64 zero_link) (sym (map-append laid_link g.channels (c ∷ []))) in
       rw e (λ i. record {
         tasks = pad 32 no_task g.tasks;
         ntasks = length g.tasks;
@@ -147,7 +133,7 @@ module _ (m : Memory) (g : Graph) (e : m ≡ laid g) where
     load_link d =
         rw e
         (pad_at 64 zero_link (map laid_link g.channels) j d (omega (arith, length-map g.channels laid_link))
-        ∙ get_d_map laid_link g.channels j d (bare 0 0 0 0) inside)
+        ∙ get_or-map laid_link g.channels j (bare 0 0 0 0) d inside)
 
     pub store_link : (c : Link)
         → record {
@@ -164,7 +150,7 @@ module _ (m : Memory) (g : Graph) (e : m ≡ laid g) where
         let cs : List MemoryLink = map laid_link g.channels in
         let q : set (pad 64 zero_link cs) j (laid_link c) ≡ pad 64 zero_link (map laid_link (set g.channels j c)) =
         pad_set 64 zero_link cs j (laid_link c) (omega (arith, length-map g.channels laid_link))
-        ∙ ap (pad 64 zero_link) (sym (map_set laid_link g.channels j c)) in
+        ∙ ap (pad 64 zero_link) (sym (map-set laid_link g.channels j c)) in
         rw e (λ i. record {
           tasks = pad 32 no_task g.tasks;
           ntasks = length g.tasks;

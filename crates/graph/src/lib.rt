@@ -6,7 +6,7 @@ ghost use Rattle.graph.specs.Memory.{empty_memory};
 ghost use Rattle.graph.specs.Rates.{list_of, place_in, rate_of};
 
 // A periodic task. Times are ticks; priority 1 is the highest.
-#[derive(Clone, Copy)]
+#[derive(Clone, Copy, PartialEq, Eq)]
 pub struct Task {
     pub period: u32,
     pub offset: u32,
@@ -16,7 +16,8 @@ pub struct Task {
 }
 
 // The rates of one side of a channel: the first `plen` places of the prefix and the first `clen` of the cycle count.
-#[derive(Clone, Copy)]
+// Kept: arrays with a count beside each, since the law fixes the fields of a graph in memory.
+#[derive(Clone, Copy, PartialEq, Eq)]
 pub struct Side {
     pub prefix: [u16; Graph::PREFIX],
     pub plen: usize,
@@ -25,7 +26,7 @@ pub struct Side {
 }
 
 // A queue from one task to another.
-#[derive(Clone, Copy)]
+#[derive(Clone, Copy, PartialEq, Eq)]
 pub struct Channel {
     pub producer: u8,
     pub consumer: u8,
@@ -36,7 +37,7 @@ pub struct Channel {
 }
 
 // A relation (n, φ, d) of the tasks p and q.
-#[derive(Clone, Copy)]
+#[derive(Clone, Copy, PartialEq, Eq)]
 pub struct Relation {
     pub p: u8,
     pub q: u8,
@@ -46,7 +47,8 @@ pub struct Relation {
 }
 
 // A graph: the first places of each array, up to its count, and zero behind them.
-#[derive(Clone, Copy)]
+// Kept: arrays with a count beside each, since the law fixes the fields of a graph in memory.
+#[derive(Clone, Copy, PartialEq, Eq)]
 pub struct Graph {
     pub tasks: [Task; Graph::TASKS],
     pub ntasks: usize,
@@ -57,7 +59,7 @@ pub struct Graph {
 }
 
 impl Task {
-    pub const NONE: Task = Task {
+    pub const NONE: Self = Self {
         period: 0,
         offset: 0,
         deadline: 0,
@@ -67,7 +69,7 @@ impl Task {
 }
 
 impl Side {
-    pub const NONE: Side = Side {
+    pub const NONE: Self = Self {
         prefix: [0; Graph::PREFIX],
         plen: 0,
         cycle: [0; Graph::CYCLE],
@@ -76,7 +78,7 @@ impl Side {
 }
 
 impl Channel {
-    pub const NONE: Channel = Channel {
+    pub const NONE: Self = Self {
         producer: 0,
         consumer: 0,
         initial: 0,
@@ -87,7 +89,7 @@ impl Channel {
 }
 
 impl Relation {
-    pub const NONE: Relation = Relation {
+    pub const NONE: Self = Self {
         p: 0,
         q: 0,
         n: 0,
@@ -118,24 +120,26 @@ impl Graph {
 
     pub const ONE: u8 = 1;
 
-    pub const EMPTY: Graph = Graph {
-        tasks: [Task::NONE; Graph::TASKS],
+    pub const EMPTY: Self = Self {
+        tasks: [Task::NONE; Self::TASKS],
         ntasks: 0,
-        channels: [Channel::NONE; Graph::CHANNELS],
+        channels: [Channel::NONE; Self::CHANNELS],
         nchannels: 0,
-        relations: [Relation::NONE; Graph::RELATIONS],
+        relations: [Relation::NONE; Self::RELATIONS],
         nrelations: 0,
     };
 
     // The graph without a task, a channel or a relation.
-    pub fn empty() -> Graph
+    #[tactic(auto, unfolding(crate::specs::Memory::laid, crate::specs::Memory::pad))]
+    pub fn empty() -> Self
         ensures { result ≡ empty_memory }
     {
-        Graph::EMPTY
+        Self::EMPTY
     }
 }
 
 // The list that the rate of job m stands in: the prefix where it has an entry m, otherwise the cycle.
+#[tactic(auto, unfolding(crate::specs::Rates::list_of))]
 pub fn list_at<'a>(prefix: &'a [u16], cycle: &'a [u16], m: u64) -> &'a [u16]
     ensures { result.now ≡ list_of prefix.now cycle.now m }
 {
@@ -147,6 +151,7 @@ pub fn list_at<'a>(prefix: &'a [u16], cycle: &'a [u16], m: u64) -> &'a [u16]
 }
 
 // The place of that rate in its list, by the lengths of prefix and cycle; 0 in an empty cycle. The first turn needs no division.
+#[tactic(auto, using(crate::proofs::Rates::place_first_turn), unfolding(crate::specs::Rates::place_in))]
 pub fn place_at(plen: usize, clen: usize, m: u64) -> usize
     ensures { result ≡ place_in plen clen m }
 {
@@ -165,10 +170,11 @@ pub fn place_at(plen: usize, clen: usize, m: u64) -> usize
 }
 
 // The rate of job m; 0 past the prefix of a side whose cycle is empty.
-pub fn rate_at<'a>(prefix: &'a [u16], cycle: &'a [u16], m: u64) -> u16
+#[tactic(auto, unfolding(crate::specs::Rates::rate_of))]
+pub fn rate_at(prefix: &[u16], cycle: &[u16], m: u64) -> u16
     ensures { result ≡ rate_of prefix.now cycle.now m }
 {
     let list = list_at(prefix, cycle, m);
     let place = place_at(prefix.len(), cycle.len(), m);
-    if place < list.len() { list[place] } else { 0 }
+    list.get(place).copied().unwrap_or(0)
 }

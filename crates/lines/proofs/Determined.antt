@@ -1,15 +1,15 @@
 -- One text to one file, and every byte of the output. Assumes nothing.
 use mathlib.Core.Path.{◌≡◌, sym, ap, ap₂, ◌∙◌}
 use mathlib.Core.Bool.{cond}
-use mathlib.Core.List.{List, [], ◌++◌}
-use Prim.Native.Nat.{ℕ}
+use mathlib.Core.List.{List, ◌++◌}
+use Prim.Native.Nat.{ℕ, ◌≤◌}
 use native.Mathlib.Omega.{arith}
 use borrow.Author.Tests.{ne_eqb}
 use lib.Dec.{eqb}
 use lib.ListN.{length, take, drop, replicate, take-append-drop}
 use lib.Seq.{take_at}
-use Rattle.reply.specs.declared.Reply.{Reply}
-use Rattle.reply.specs.Reply.{numbered, number, place}
+use Rattle.std.specs.Prelude.{Ok, Err}
+use Rattle.reply.specs.Reply.{Reply, numbered, number}
 use Rattle.graph.specs.Model.{Graph, count}
 use Rattle.format.specs.Reader as files
 use Rattle.rules.specs.Rules.{Replies, passes, fails}
@@ -17,31 +17,28 @@ use Rattle.rules.specs.Files.{Judged}
 use Rattle.rules.proofs.Find.{known}
 use Rattle.rules.proofs.Files.{file_determined}
 use Rattle.checker.specs.Check.{ChecksFile}
-use Rattle.checker.proofs.Files.{stop_number}
+use Rattle.checker.proofs.Files.{accepted_fits}
 use Rattle.lines.specs.Lines.{lines, shown, Prints, Printed}
 
 -- ---- what is shown of the report is the figures
 
-nothing_shown : (r : Reply) → ¬ (number r ≡ 0) → shown r ≡ 0
-nothing_shown r h = ap (λ b. cond b (place r) 0) (ne_eqb (number r) 0 h)
-
 graph_shown : (g : Graph) (room : ℕ) {r : Reply} (l : List ℕ) → Replies g room r → length l ≡ cond (eqb (number r) 0) (count g) 0 → shown r ≡ length l
 graph_shown g room l (passes a) e = sym e
-graph_shown g room l (fails r h k) e =
-    let n : ¬ (number r ≡ 0) = λ z. omega (arith, known g room r h) in
-    nothing_shown r n ∙ sym (e ∙ ap (λ b. cond b (count g) 0) (ne_eqb (number r) 0 n))
+graph_shown g room l (fails r h k) e = sym (e ∙ ap (λ b. cond b (count g) 0) (ne_eqb (number (Err r)) 0 (λ z. omega (arith, known g room r h))))
 
 figures_shown : (file before after : List ℕ) (r : Reply) (c : ChecksFile file before r after) → shown r ≡ length c.figures
 figures_shown file before after r c = go c.answers.read c.answers.judged
   where
-    refused : (s : Reply) → ¬ (number s ≡ 0) → (r ≡ s) × (c.figures ≡ []) → shown r ≡ length c.figures
-    refused s h j = ap shown j.0 ∙ nothing_shown s h ∙ sym (ap length j.1)
-
     go : (a : files.Answer) → Judged a (length before) r c.figures → shown r ≡ length c.figures
     go (files.taken g) j = graph_shown g (length before) c.figures j.replies j.reports.size
-    go (files.stopped t p) j = refused (files.reply (files.stopped t p)) (stop_number t p) j
-    go files.no_task j = refused (files.reply files.no_task) (λ z. omega arith) j
-    go (files.no_entry p) j = refused (files.reply (files.no_entry p)) (λ z. omega arith) j
+    go (files.stopped t p) j = ap shown j.0 ∙ sym (ap length j.1)
+    go files.no_task j = ap shown j.0 ∙ sym (ap length j.1)
+    go (files.no_entry p) j = ap shown j.0 ∙ sym (ap length j.1)
+
+-- and no more than the report has places
+pub shown_fits : (file before after : List ℕ) (r : Reply) → ChecksFile file before r after → shown r ≤ length before
+shown_fits file before after (Ok n) c = accepted_fits file before after n c
+shown_fits file before after (Err r) c = omega arith
 
 -- the lines are those of the reply and the figures
 pub lines_are : (file : List ℕ) (r : Reply) (report : List ℕ) (c : ChecksFile file (replicate 32 0) r report)

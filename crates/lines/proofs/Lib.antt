@@ -1,4 +1,3 @@
-pub mod Digits
 pub mod Figures
 pub mod Printing
 pub mod Determined

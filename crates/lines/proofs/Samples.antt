@@ -3,7 +3,10 @@ use mathlib.Core.Path.{◌≡◌, refl, sym, ap, ap₂, subst, ◌∙◌}
 use mathlib.Core.Logic.{◌↔◌}
 use mathlib.Core.List.{List, ◌++◌}
 use Prim.Native.Nat.{ℕ}
+use native.Mathlib.Omega.{arith}
+use lib.Chars.{codes}
 use lib.ListN.{length, drop, replicate}
+use Rattle.std.proofs.lemmas.Fmt.{decimal_digit}
 use Rattle.numbers.specs.Numbers.{from}
 use Rattle.numbers.specs.Lists.{All}
 use Rattle.numbers.proofs.Lists.{all_map}
@@ -13,7 +16,7 @@ use Rattle.rules.proofs.Files.{file_determined}
 use Rattle.samples.specs.Samples.{Sample, A, starred, samples, Right}
 use Rattle.samples.proofs.Samples.{samples_right}
 use Rattle.checker.specs.Check.{ChecksFile}
-use Rattle.lines.specs.Lines.{ascii, width, decimal, figure_lines, lines, Prints}
+use Rattle.lines.specs.Lines.{figure_lines, lines, Prints}
 use Rattle.lines.proofs.Determined.{lines_are, text_is}
 
 -- the text of a sample
@@ -47,7 +50,9 @@ text_of s a e text = (only, some)
 pub samples_printed : All TextOf samples
 samples_printed = all_map Right TextOf text_of samples samples_right
 
--- for A exactly the three lines of document 01
-pub a_printed : (text : List ℕ) → Prints A text ↔ (text ≡ ascii "0 2 0\n0 1\n1 3\n")
-unfolding samples starred width decimal figure_lines from
-a_printed = samples_printed.1.1.1.0 refl
+-- for A exactly three lines
+pub a_printed : (text : List ℕ) → Prints A text ↔ (text ≡ codes "0 2 0\n0 1\n1 3\n")
+unfolding samples starred figure_lines from
+a_printed text =
+    let e = simp (decimal_digit 0 (omega arith), decimal_digit 1 (omega arith), decimal_digit 2 (omega arith), decimal_digit 3 (omega arith)) at (samples_printed.1.1.1.0 refl text) in
+    e

@@ -1,26 +1,9 @@
 -- The lines that the program prints, as bytes. Assumes nothing.
-use Rattle.std.specs.Prelude.{◌≡◌, cond, List, [], ◌∷◌, ◌++◌, ℕ, suc, ◌^◌, ◌≤◌, ltb, eqb, length, take, drop, replicate}
-use Prim.Native.Char.{code}
-use Prim.Native.String as text
-use Rattle.io.specs.Digits.{last_digits}
-use Rattle.numbers.specs.Numbers.{least}
+use Rattle.std.specs.Prelude.{◌≡◌, Ok, Err, List, [], ◌∷◌, ◌++◌, ℕ, suc, ◌≤◌, length, take, drop, replicate}
+use Rattle.std.specs.Fmt.{decimal}
 use Rattle.reply.specs.declared.Numbers.{Numbers}
-use Rattle.reply.specs.declared.Reply.{Reply}
-use Rattle.reply.specs.Reply.{numbered, number, place}
+use Rattle.reply.specs.Reply.{Reply, numbered}
 use Rattle.checker.specs.Check.{ChecksFile}
-
--- how many decimal digits n has, up to 20, which hold what 64 bits hold
-unfoldable pub width : ℕ → ℕ
-width n = suc (least (λ k. ltb n (10 ^ suc k)) 19)
-
--- n in decimal, the most significant digit first
-unfoldable pub decimal : ℕ → List ℕ
-decimal n = last_digits 10 (width n) n
-
--- the bytes of an ASCII text
-abbrev pub ascii : text.String → List ℕ
-ascii text.[] = []
-ascii (text.◌∷◌ c s) = code c ∷ ascii s
 
 -- the byte of a space
 abbrev pub space : ℕ
@@ -30,7 +13,7 @@ space = 0x20
 abbrev pub feed : ℕ
 feed = 0x0a
 
--- a number and the byte behind it
+-- a number in decimal and the byte behind it
 abbrev pub word : ℕ → ℕ → List ℕ
 word n end = decimal n ++ (end ∷ [])
 
@@ -47,9 +30,10 @@ figure_lines i (x ∷ xs) = (word i space ++ word x feed) ++ figure_lines (suc i
 abbrev pub lines : Numbers → List ℕ → List ℕ
 lines x figures = reply_line x ++ figure_lines 0 figures
 
--- how many figures are shown: one for each task of an accepted graph
+-- how many figures are shown: one for each task of an accepted graph, and none of a refused one
 abbrev pub shown : Reply → ℕ
-shown r = cond (eqb (number r) 0) (place r) 0
+shown (Ok n) = n
+shown (Err r) = 0
 
 -- The text for a file: the lines of a reply and a report that `check_file`'s contract allows, where the report held 32 zeros before.
 pub record Prints (file printed : List ℕ) : Type 0 where

@@ -1,65 +1,49 @@
 // What the program prints: the reply's three numbers, and one line for each task of an accepted graph.
 #![tactic(auto)]
 
-ghost use Rattle.std.specs.Prelude.{◌≡◌, ◌+◌, ◌*◌, ◌≤◌, length, take};
-ghost use Rattle.output.specs.Output.{Puts};
+ghost use Rattle.std.specs.Prelude.{◌*◌, ◌≤◌, length};
+ghost use Rattle.output.specs.Cursor.{HasRoom, Wrote};
 ghost use Rattle.lines.specs.Lines.{word, figure_lines, Printed};
 
-// The first k digits at a place of the output; the answer is the next place.
-fn copy(digits: [u8; 20], k: usize, at: usize, out: &mut [u8]) -> usize
-    requires { (k ≤ 20) × (at + k ≤ length out.old) }
-    ensures { Puts out.old at (take k digits) out.new result }
+use graph::Graph;
+use itoa::Buffer;
+use output::Cursor;
+use reply::Numbers;
+
+// A number in decimal and a byte behind it. The longest number of 64 bits has 20 digits.
+fn put_word(cursor: &mut Cursor, n: u64, end: u8)
+    requires { HasRoom cursor.old 21 }
+    ensures word { Wrote cursor.old (word n end) cursor.new }
+    ensures short { length (word n end) ≤ 21 }
 {
-    let mut i: usize = 0;
-    while i < k {
-        out[at + i] = digits[i];
-        i += 1;
-    }
-    at + k
+    let mut digits = Buffer::new();
+    cursor.put(digits.format(n).as_bytes());
+    cursor.put(&[end]);
 }
 
-// A number in decimal and a byte behind it.
-fn put(n: u64, end: u8, at: usize, out: &mut [u8]) -> usize
-    requires { at + 21 ≤ length out.old }
-    ensures puts { Puts out.old at (word n end) out.new result }
-    ensures upper_bound { result ≤ at + 21 }
+// One line for each figure: its index, and the figure.
+fn put_figures(cursor: &mut Cursor, figures: &[u32])
+    requires { HasRoom cursor.old (length figures.now * 42) }
+    ensures { Wrote cursor.old (figure_lines 0 figures.now) cursor.new }
 {
-    let mut digits = [0u8; 20];
-    let k = io::decimal(n, &mut digits);
-    let last = copy(digits, k, at, out);
-    out[last] = end;
-    last + 1
-}
-
-// One line for each of the first n figures: its index, and the figure.
-fn put_figures(figures: [u32; 32], n: usize, at: usize, out: &mut [u8]) -> usize
-    requires { (n ≤ 32) × (at + n * 42 ≤ length out.old) }
-    ensures { Puts out.old at (figure_lines 0 (take n figures)) out.new result }
-{
-    let mut next = at;
-    let mut i: usize = 0;
-    while i < n {
-        let middle = put(i as u64, b' ', next, out);
-        next = put(figures[i] as u64, b'\n', middle, out);
-        i += 1;
+    for (i, figure) in figures.iter().enumerate() {
+        put_word(cursor, i as u64, b' ');
+        put_word(cursor, u64::from(*figure), b'\n');
     }
-    next
 }
 
 // The lines for a file at the front of the output; the answer is how many bytes they are.
 pub fn answer(file: &[u8], out: &mut [u8; 2048]) -> usize
     ensures { Printed file.now out.old out.new result }
 {
-    let mut report: [u32; 32] = [0; 32];
+    let mut report = [0; Graph::TASKS];
     let reply = checker::check_file(file, &mut report);
-    let numbers = reply::numbers_of(reply);
-    let count = numbers.place;
-    let a = put(numbers.number as u64, b' ', 0, out);
-    let b = put(count as u64, b' ', a, out);
-    let c = put(numbers.job, b'\n', b, out);
-    if numbers.number == 0 {
-        put_figures(report, count, c, out)
-    } else {
-        c
-    }
+    let numbers = Numbers::from(reply);
+    let figures = &report[..reply.unwrap_or(0)];
+    let mut cursor = Cursor::new(out);
+    put_word(&mut cursor, u64::from(numbers.number), b' ');
+    put_word(&mut cursor, numbers.place as u64, b' ');
+    put_word(&mut cursor, numbers.job, b'\n');
+    put_figures(&mut cursor, figures);
+    cursor.place()
 }

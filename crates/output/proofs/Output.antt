@@ -1,13 +1,13 @@
--- Bytes over a part of the output, and more bytes behind them. Assumes nothing.
-use mathlib.Core.Path.{◌≡◌, ap, sym, subst, ◌∙◌}
-use mathlib.Core.List.{List, [], ◌∷◌, ◌++◌, append_assoc}
-use Prim.Native.Nat.{ℕ, ◌+◌, ◌≤◌}
+-- Bytes over a part of an output, and more bytes behind them. Assumes nothing.
+use mathlib.Core.Path.{◌≡◌, ap, ap₂, sym, ◌∙◌}
+use mathlib.Core.List.{List, [], ◌++◌, append_assoc}
+use Prim.Native.Nat.{ℕ, ◌+◌, ◌-◌, ◌≤◌}
 use native.Mathlib.Nat.{add-zero, zero-add}
-use native.Mathlib.Numerals.{add-one}
 use native.Mathlib.Omega.{arith}
-use lib.ListN.{length, take, drop, set, length-append, length-drop, take-append-drop}
-use lib.Seq.{take_at, drop-drop, drop_at, length-take-le, set_split}
-use Rattle.output.specs.Output.{put, Puts}
+use borrow.Rule.Slice.PartMut.{put_mid}
+use lib.ListN.{length, take, drop, length-append, length-drop, take-append-drop}
+use lib.Seq.{take_at, drop-drop, drop_at, length-take-le}
+use Rattle.output.specs.Output.{put}
 
 module _ (out : List ℕ) (at : ℕ) (bs : List ℕ) (fits : at + length bs ≤ length out) where
   -- what stands before the next place
@@ -49,40 +49,14 @@ pub put_front : (out bs : List ℕ) → put out 0 bs ≡ bs ++ drop (length bs) 
 unfolding put
 put_front out bs = ap (λ n. bs ++ drop n out) (zero-add (length bs))
 
--- ---- as functions write them
-
-pub puts_length : {out : List ℕ} {at : ℕ} {bs after : List ℕ} {end : ℕ} → Puts out at bs after end → length after ≡ length out
-puts_length {out} {at} {bs} p = ap length p.bytes ∙ put_length out at bs (omega arith)
-
-pub puts_then : {out : List ℕ} {at : ℕ} {bs after : List ℕ} {end : ℕ} {cs last : List ℕ} {stop : ℕ}
-    → Puts out at bs after end → Puts after end cs last stop → Puts out at (bs ++ cs) last stop
-puts_then {out} {at} {bs} {after} {end} {cs} p q =
-    record {
-      bytes = q.bytes ∙ ap (λ l. put l end cs) p.bytes ∙ ap (λ n. put (put out at bs) n cs) p.next ∙ put_put out at bs (omega arith) cs;
-      next = omega (arith, length-append bs cs);
-      room = omega (arith, puts_length p);
-    }
-
-pub puts_same : {out : List ℕ} {at : ℕ} {bs cs after : List ℕ} {end : ℕ} → bs ≡ cs → Puts out at bs after end → Puts out at cs after end
-puts_same {out} {at} {bs} {cs} {after} {end} e p = subst (λ l. Puts out at l after end) e p
-
--- nothing yet
-pub puts_none : (out : List ℕ) (at : ℕ) → at ≤ length out → Puts out at [] out at
+-- nothing
+pub put_nothing : (out : List ℕ) (at : ℕ) → out ≡ put out at []
 unfolding put
-puts_none out at h =
-    record { bytes = sym (ap (λ n. take at out ++ drop n out) (add-zero at) ∙ take-append-drop at out); next = omega arith; room = h }
+put_nothing out at = sym (ap (λ n. take at out ++ drop n out) (add-zero at) ∙ take-append-drop at out)
 
--- one store
-pub puts_byte : (out : List ℕ) (at b n : ℕ) → n ≡ at + 1 → n ≤ length out → Puts out at (b ∷ []) (set out at b) n
+-- a copy into a part, as code makes it
+pub put_part : (out : List ℕ) (at : ℕ) (bs : List ℕ) {part : List ℕ} → part ≡ bs → put_mid at (at + length bs - at) out part ≡ put out at bs
 unfolding put
-puts_byte out at b n e h =
-    record {
-      bytes = set_split out at b (omega arith) ∙ ap (λ m. take at out ++ b ∷ drop m out) (sym (add-one at));
-      next = e;
-      room = h;
-    }
-
--- one store more
-pub puts_more : {out : List ℕ} {at : ℕ} {bs after : List ℕ} {m : ℕ} (b n : ℕ) → n ≡ m + 1 → n ≤ length out
-    → Puts out at bs after m → Puts out at (bs ++ (b ∷ [])) (set after m b) n
-puts_more {out} {at} {bs} {after} {m} b n e h p = puts_then p (puts_byte after m b n e (omega (arith, puts_length p)))
+put_part out at bs e =
+    let n : at + (at + length bs - at) ≡ at + length bs = omega arith in
+    ap₂ (λ (b d : List ℕ). take at out ++ (b ++ d)) e (drop-drop (at + length bs - at) at out ∙ ap (λ k. drop k out) n)

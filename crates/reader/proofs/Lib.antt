@@ -1,5 +1,6 @@
 pub mod Growth
+pub mod Stored
 pub mod Loop
-pub mod Runs
 pub mod Whole
+pub mod Ends
 pub mod Determined

@@ -1,12 +1,22 @@
 -- What reading a file gives. Assumes nothing.
-use Rattle.std.specs.Prelude.{◌≡◌, List, [], ℕ}
+use Rattle.std.specs.Prelude.{◌≡◌, List, ℕ, Option, None, Some, Result, Ok, Err}
 use Rattle.numbers.specs.Lists.{First}
-use Rattle.reply.specs.declared.Found.{Found}
-use Rattle.reply.specs.declared.Found.TheVariants.{Nothing, At}
+use Rattle.reply.specs.declared.Refusal.{Refusal}
 use Rattle.graph.specs.Model.{Graph}
-use Rattle.graph.specs.Memory.{laid}
-use Rattle.format.specs.Reader.{State, Hollow, Answer, reply, graph_of, Ends, Answers}
+use Rattle.graph.specs.Memory.{Memory, laid}
+use Rattle.format.specs.Reader.{Hollow, Answer, reply, graph_of, Answers, Reads}
 use Rattle.reader.specs.declared.Reading.{Reading}
+use Rattle.reader.specs.Records.{Refused}
+
+-- no cycle is without entries, or the one at place i is the first
+abbrev pub FirstHollow : Graph → Option ℕ → Type 0
+FirstHollow g None = (i : ℕ) → ¬ Hollow g i
+FirstHollow g (Some i) = First (Hollow g) i
+
+-- the graph that the file reads as, laid out in memory, or the reader's refusal
+abbrev pub Parses : List ℕ → Result Memory Refusal → Type 0
+Parses file (Ok m) = (g : Graph) × Reads file g × (m ≡ laid g)
+Parses file (Err r) = Refused file r
 
 -- the answer to the file: its reply, and its graph laid out in memory
 pub record Gives (file : List ℕ) (r : Reading) : Type 0 where
@@ -14,15 +24,3 @@ pub record Gives (file : List ℕ) (r : Reading) : Type 0 where
   pub means : Answers file answer
   pub reply : r.reply ≡ reply answer
   pub graph : r.graph ≡ laid (graph_of answer)
-
--- the same where the records are all read and have made the graph g
-pub record Finishes (g : Graph) (r : Reading) : Type 0 where
-  pub answer : Answer
-  pub ends : (s : State) (at : ℕ) → s.graph ≡ g → Ends s at [] answer
-  pub reply : r.reply ≡ reply answer
-  pub graph : r.graph ≡ laid (graph_of answer)
-
--- no cycle is without entries, or the one at place i is the first
-abbrev pub FirstHollow : Graph → Found → Type 0
-FirstHollow g Nothing = (i : ℕ) → ¬ Hollow g i
-FirstHollow g (At i) = First (Hollow g) i

@@ -1,361 +1,160 @@
 // The reader of graph files: record by record from the front, each test in its order, into a graph.
 #![tactic(auto)]
 
-ghost use Rattle.std.specs.Prelude.{◌≡◌, true, List, ℕ, ◌≤◌, length};
-ghost use Rattle.graph.specs.Model.{Rates, Link, Graph as Model, bare};
-ghost use Rattle.graph.specs.Memory.{Memory, laid_rates, laid_link};
-ghost use Rattle.format.specs.Growth.{part_of, side_of, push_part, push};
-ghost use Rattle.reader.specs.Records.{Room, with_sides, Roomy, SameList, Fills, Stood, test_of, LaidOut, HoldsOne, Ended};
-ghost use Rattle.reader.specs.Reading.{Gives, Finishes, FirstHollow};
-ghost use Rattle.format.specs.Reader.{limit, stop_reply, Answers, stopped as refused};
-ghost use Rattle.record.specs.Fronts.{Decides};
-ghost use Rattle.format.specs.Record.{rate};
+ghost use Rattle.std.specs.Prelude.{◌≡◌, map};
+ghost use Rattle.graph.specs.Model.{Rates, Graph as Model, bare};
+ghost use Rattle.graph.specs.Memory.{laid, laid_rates, laid_link};
+ghost use Rattle.format.specs.Reader.{stop_reply};
+ghost use Rattle.reader.specs.Records.{Appends, Pushes, Names, Stores, test_of, Ended};
+ghost use Rattle.reader.specs.Reading.{FirstHollow, Parses, Gives};
 
 use graph::{Channel, Graph, Side};
-use record::{BODY, Entry, Front, Head, Test};
-use reply::{Found, Reply};
-
-// A side and a channel with the entries of a run of rates, and the place behind the run.
-#[derive(Clone, Copy)]
-pub struct Filled {
-    pub side: Side,
-    pub at: usize,
-}
-
-#[derive(Clone, Copy)]
-pub struct Grown {
-    pub link: Channel,
-    pub at: usize,
-}
-
-// How the records end: all are good, or a test fires at the record at a place.
-#[derive(Clone, Copy)]
-pub enum End {
-    Whole,
-    Stopped { test: Test, at: usize },
-}
-
-// How the records end, and the graph that the good ones make.
-#[derive(Clone, Copy)]
-pub struct Run {
-    pub end: End,
-    pub graph: Graph,
-}
+use record::{Counts, Head, Record, Test};
+use reply::{Refusal, Reply};
 
 // What reading a file gives: the reply beside the graph, which is the empty one on a refusal.
-#[derive(Clone, Copy)]
+// Kept: what `read` promises (`Gives`) names the graph of a refusal too; `parse` gives the Result.
+#[derive(Clone, Copy, PartialEq, Eq)]
 pub struct Reading {
     pub reply: Reply,
     pub graph: Graph,
 }
 
-// A side's entries of a part, and a side with one entry more.
-fn count_in(s: Side, part: u8) -> usize
-    ensures { (l : Rates) → s ≡ laid_rates l → result ≡ length (part_of l part) }
+// An item behind the others of a list, where the list's array has a place for it.
+fn append<T: Copy>(places: &mut [T], count: &mut usize, item: T) -> Result<(), Test>
+    ensures { Appends places.old count.old item places.new count.new result }
 {
-    if part == 0 { s.plen } else { s.clen }
+    if *count >= places.len() {
+        return Err(Test::Full);
+    }
+    places[*count] = item;
+    *count += 1;
+    Ok(())
 }
 
-fn limit_of(part: u8) -> usize
-    ensures { result ≡ limit (rate 0 0 part 0) }
+// An entry behind the others of its part.
+fn push(side: &mut Side, part: u8, tokens: u16) -> Result<(), Test>
+    ensures { (r : Rates) → side.old ≡ laid_rates r → Pushes r part tokens side.new result }
 {
-    if part == 0 {
-        Graph::PREFIX
-    } else {
-        Graph::CYCLE
+    match part {
+        0 => append(&mut side.prefix, &mut side.plen, tokens),
+        _ => append(&mut side.cycle, &mut side.clen, tokens),
     }
 }
 
-fn pushed(s: Side, part: u8, tokens: u16) -> Side
-    requires { Room s part }
-    ensures { (l : Rates) → s ≡ laid_rates l → result ≡ laid_rates (push_part l part tokens) }
-{
-    let mut t = s;
-    if part == 0 {
-        let n = t.plen;
-        t.prefix[n] = tokens;
-        t.plen = n + 1;
-        t
-    } else {
-        let n = t.clen;
-        t.cycle[n] = tokens;
-        t.clen = n + 1;
-        t
-    }
-}
-
-// A side of a channel, and the channel with another in its place.
-fn side_of(c: Channel, side: u8) -> Side
-    ensures { (l : Link) → c ≡ laid_link l → result ≡ laid_rates (side_of l side) }
-{
-    if side == 0 {
-        c.production
-    } else {
-        c.consumption
-    }
-}
-
-fn with_side(c: Channel, side: u8, s: Side) -> Channel
-    ensures { (l : Link) (q : Rates) → c ≡ laid_link l → s ≡ laid_rates q → result ≡ laid_link (with_sides l side q) }
-{
-    let mut d = c;
-    if side == 0 {
-        d.production = s;
-        d
-    } else {
-        d.consumption = s;
-        d
-    }
-}
-
-// A channel without rates; whether a channel has room for an entry; and the channel with it.
-fn link_of(h: Head) -> Channel
-    ensures { result ≡ laid_link (bare h.producer h.consumer h.initial h.size) }
+// A channel without rates.
+#[tactic(auto, unfolding(graph::specs::Memory::pad))]
+fn bare(head: &Head) -> Channel
+    ensures { result ≡ laid_link (bare head.now.producer head.now.consumer head.now.initial head.now.size) }
 {
     Channel {
-        producer: h.producer,
-        consumer: h.consumer,
-        initial: h.initial,
-        size: h.size,
-        production: Side::NONE,
-        consumption: Side::NONE,
+        producer: head.producer,
+        consumer: head.consumer,
+        initial: head.initial,
+        size: head.size,
+        ..Channel::NONE
     }
 }
 
-fn has_room(c: Channel, e: Entry) -> bool
-    ensures { (l : Link) → c ≡ laid_link l → Decides result (Roomy l e) }
+// Puts a record where it belongs; where its list is full, the graph stays as it was.
+fn store(graph: &mut Graph, record: &Record) -> Result<(), Test>
+    requires { (g : Model) × (graph.old ≡ laid g) × Names g «record».now }
+    ensures { (g : Model) → graph.old ≡ laid g → Names g «record».now → Stores g «record».now graph.new result }
 {
-    let s = side_of(c, e.side);
-    if count_in(s, e.part) < limit_of(e.part) {
-        true
-    } else {
-        false
-    }
-}
-
-// Whether two rates go into the same list.
-fn same_list(e: Entry, f: Entry) -> bool
-    ensures { result ≡ true → SameList e f }
-{
-    if e.channel != f.channel {
-        return false;
-    }
-    if e.side != f.side {
-        return false;
-    }
-    if e.part != f.part {
-        return false;
-    }
-    true
-}
-
-// The rates behind one, as long as they go into the same list and it has room: a run is stored as a whole.
-fn run_of(
-    file: &[u8],
-    start: usize,
-    e: Entry,
-    side: Side,
-    floor: u32,
-    ntasks: usize,
-    nchannels: usize,
-    nrelations: usize,
-) -> Filled
-    requires { (m : Memory) × (l : Link) × Fills file.now m l e floor ntasks nchannels nrelations side start }
-    ensures { (start ≤ result.at) × ((m : Memory) (l : Link) → Fills file.now m l e floor ntasks nchannels nrelations side start → Fills file.now m l e floor ntasks nchannels nrelations result.side result.at) }
-{
-    let mut s = side;
-    let mut at = start;
-    while at < file.len() {
-        let Front::Rate(f) = record::front_at(file, at, floor, ntasks, nchannels, nrelations) else {
-            return Filled { side: s, at: at };
-        };
-        if !same_list(e, f) {
-            return Filled { side: s, at: at };
-        }
-        if e.part == 0 {
-            let n = s.plen;
-            if Graph::PREFIX <= n {
-                return Filled { side: s, at: at };
-            }
-            s.prefix[n] = f.tokens;
-            s.plen = n + 1;
-            at = at + 1 + BODY[3];
-        } else {
-            let n = s.clen;
-            if Graph::CYCLE <= n {
-                return Filled { side: s, at: at };
-            }
-            s.cycle[n] = f.tokens;
-            s.clen = n + 1;
-            at = at + 1 + BODY[3];
-        }
-    }
-    Filled { side: s, at: at }
-}
-
-// A channel with an entry and the run of those behind it.
-fn link_with(
-    file: &[u8],
-    start: usize,
-    e: Entry,
-    c: Channel,
-    floor: u32,
-    ntasks: usize,
-    nchannels: usize,
-    nrelations: usize,
-) -> Grown
-    requires { (m : Memory) × (l : Link) × (c ≡ laid_link l) × Roomy l e × Stood file.now m (laid_link (push e.side e.part e.tokens l)) e floor ntasks nchannels nrelations start }
-    ensures { (start ≤ result.at) × ((m : Memory) (l : Link) → c ≡ laid_link l → Stood file.now m (laid_link (push e.side e.part e.tokens l)) e floor ntasks nchannels nrelations start → Stood file.now m result.link e floor ntasks nchannels nrelations result.at) }
-{
-    let s = side_of(c, e.side);
-    let t = pushed(s, e.part, e.tokens);
-    let f = run_of(file, start, e, t, floor, ntasks, nchannels, nrelations);
-    let u = f.side;
-    let link = with_side(c, e.side, u);
-    Grown {
-        link: link,
-        at: f.at,
-    }
-}
-
-// How a run ends at a record that a test stops.
-fn stopped(test: Test, at: usize, graph: Graph) -> Run
-    ensures { (file : List ℕ) → Answers file (refused (test_of test) at) → Ended file result }
-{
-    Run {
-        end: End::Stopped { test: test, at: at },
-        graph: graph,
-    }
-}
-
-// The records from the front, each stored where it belongs, up to the end or the first that a test stops.
-fn records(file: &[u8]) -> Run
-    ensures { Ended file.now result }
-{
-    let mut graph = Graph::empty();
-    let mut floor: u32 = 0;
-    let mut at: usize = 0;
-    while at < file.len() {
-        let ntasks = graph.ntasks;
-        let nchannels = graph.nchannels;
-        let nrelations = graph.nrelations;
-        match record::front_at(file, at, floor, ntasks, nchannels, nrelations) {
-            Front::Task(t) => {
-                graph.tasks[ntasks] = t;
-                graph.ntasks = ntasks + 1;
-                floor = record::rank_of(1, 0, 0, 0);
-                at = at + 1 + BODY[1];
-            }
-            Front::Channel(h) => {
-                graph.channels[nchannels] = link_of(h);
-                graph.nchannels = nchannels + 1;
-                floor = record::rank_of(2, 0, 0, 0);
-                at = at + 1 + BODY[2];
-            }
-            Front::Rate(e) => {
-                let i = e.channel as usize;
-                let c = graph.channels[i];
-                if !has_room(c, e) {
-                    return stopped(Test::Full, at, graph);
-                }
-                floor = record::rank_of(3, e.channel, e.side, e.part);
-                let start = at + 1 + BODY[3];
-                let run = link_with(file, start, e, c, floor, ntasks, nchannels, nrelations);
-                let link = run.link;
-                graph.channels[i] = link;
-                at = run.at;
-            }
-            Front::Relation(l) => {
-                graph.relations[nrelations] = l;
-                graph.nrelations = nrelations + 1;
-                floor = record::rank_of(4, 0, 0, 0);
-                at = at + 1 + BODY[4];
-            }
-            Front::Stopped(test) => {
-                return stopped(test, at, graph);
+    match record {
+        Record::Task(task) => append(&mut graph.tasks, &mut graph.ntasks, *task),
+        Record::Channel(head) => append(&mut graph.channels, &mut graph.nchannels, bare(head)),
+        Record::Rate(entry) => {
+            let channel = &mut graph.channels[usize::from(entry.channel)];
+            match entry.side {
+                0 => push(&mut channel.production, entry.part, entry.tokens),
+                _ => push(&mut channel.consumption, entry.part, entry.tokens),
             }
         }
-    }
-    Run {
-        end: End::Whole,
-        graph: graph,
+        Record::Relation(relation) => append(
+            &mut graph.relations,
+            &mut graph.nrelations,
+            *relation,
+        ),
     }
 }
 
-// The reply to a test that fires at a place.
-fn stop_reply(test: Test, at: usize) -> Reply
+// The refusal where a test fires at a place.
+fn refusal(test: Test, at: usize) -> Refusal
     ensures { result ≡ stop_reply (test_of test) at }
 {
     match test {
-        Test::Unknown => Reply::UnknownKind { at: at },
-        Test::Cut => Reply::CutShort { at: at },
-        Test::Down => Reply::OutOfOrder { at: at },
-        Test::Range => Reply::OutOfRange { at: at },
-        Test::Full => Reply::TooMany { at: at },
+        Test::Unknown => Refusal::UnknownKind { at },
+        Test::Cut => Refusal::CutShort { at },
+        Test::Down => Refusal::OutOfOrder { at },
+        Test::Range => Refusal::OutOfRange { at },
+        Test::Full => Refusal::TooMany { at },
     }
+}
+
+// The graph that the records make, up to the end of the file or the first that a test stops.
+fn records(file: &[u8]) -> Result<Graph, Refusal>
+    ensures { Ended file.now result }
+{
+    let mut graph = Graph::EMPTY;
+    let mut floor = 0;
+    let mut at = 0;
+    while at < file.len() {
+        let behind = Counts {
+            floor,
+            tasks: graph.ntasks,
+            channels: graph.nchannels,
+            relations: graph.nrelations,
+        };
+        let record = record::front_at(file, at, &behind).map_err(|test| refusal(test, at))?;
+        store(&mut graph, &record).map_err(|test| refusal(test, at))?;
+        floor = record.rank();
+        at += record.length();
+    }
+    Ok(graph)
 }
 
 // The first cycle without entries, by its place 2 × channel + side.
-fn hollow(graph: Graph) -> Found
-    requires { HoldsOne graph }
-    ensures { (g : Model) → LaidOut graph g → FirstHollow g result }
+fn hollow(channels: &[Channel]) -> Option<usize>
+    ensures { (g : Model) → channels.now ≡ map laid_link g.channels → FirstHollow g result }
 {
-    let n = graph.nchannels;
-    let mut i: usize = 0;
-    while i < n {
-        let c = graph.channels[i];
-        let p = c.production;
-        let q = c.consumption;
-        if p.clen == 0 {
-            return Found::At { index: 2 * i };
+    for (i, channel) in channels.iter().enumerate() {
+        if channel.production.clen == 0 {
+            return Some(2 * i);
         }
-        if q.clen == 0 {
-            return Found::At { index: 2 * i + 1 };
+        if channel.consumption.clen == 0 {
+            return Some(2 * i + 1);
         }
-        i += 1;
     }
-    Found::Nothing
+    None
 }
 
-// The tests of the whole graph: a task, and an entry in each cycle.
-fn finish(graph: Graph) -> Reading
-    requires { HoldsOne graph }
-    ensures { (g : Model) → LaidOut graph g → Finishes g result }
+// The graph of a file: its records, then the tests of the whole, a task and an entry in each cycle.
+pub fn parse(file: &[u8]) -> Result<Graph, Refusal>
+    ensures { Parses file.now result }
 {
-    let n = graph.ntasks;
-    if n == 0 {
-        return Reading {
-            reply: Reply::NoTask,
-            graph: Graph::empty(),
-        };
+    let graph = records(file)?;
+    if graph.ntasks == 0 {
+        return Err(Refusal::NoTask);
     }
-    match hollow(graph) {
-        Found::At { index } => Reading {
-            reply: Reply::EmptyCycle { place: index },
-            graph: Graph::empty(),
-        },
-        Found::Nothing => Reading {
-            reply: Reply::Accepted { tasks: n },
-            graph: graph,
-        },
+    match hollow(&graph.channels[..graph.nchannels]) {
+        Some(place) => Err(Refusal::EmptyCycle { place }),
+        None => Ok(graph),
     }
 }
 
-// The reply to a file and the graph that it holds.
+// The reply to a file, and the graph that it holds or the empty one.
 pub fn read(file: &[u8]) -> Reading
     ensures { Gives file.now result }
 {
-    let run = records(file);
-    let end = run.end;
-    let graph = run.graph;
-    match end {
-        End::Stopped { test, at } => {
-            let nothing = Graph::empty();
-            Reading {
-                reply: stop_reply(test, at),
-                graph: nothing,
-            }
-        }
-        End::Whole => finish(graph),
+    match parse(file) {
+        Ok(graph) => Reading {
+            reply: Ok(graph.ntasks),
+            graph,
+        },
+        Err(refusal) => Reading {
+            reply: Err(refusal),
+            graph: Graph::EMPTY,
+        },
     }
 }

@@ -1,8 +1,8 @@
 -- The record at a place is determined: one front to one file, place, floor and counts. Assumes nothing.
+use Rattle.std.specs.Prelude.{Result, Ok, Err, Option, None, Some}
 use mathlib.Core.Path.{◌≡◌, refl, sym, ap, subst, ◌∙◌}
 use mathlib.Core.Bool.{Bool, true, false, cond}
 use mathlib.Core.Logic.{inl, inr}
-use mathlib.Core.Option.{Option, none, some}
 use mathlib.Core.List.{List}
 use Prim.Native.Nat.{ℕ, zero, suc, ◌≤◌, ◌<◌}
 use native.Mathlib.Omega.{arith}
@@ -12,43 +12,45 @@ use Rattle.graph.specs.Model.{Link, no_task, no_relation, no_rates, bare}
 use Rattle.format.specs.Growth.{list_of}
 use Rattle.format.specs.Record.{Kind, kind_of, size, Record, task, channel, rate, relation, decode, rank}
 use Rattle.format.specs.Reader.{State, InRange, count, limit}
+use Rattle.record.specs.declared.Counts.{Counts}
+use Rattle.record.specs.declared.Test.{Test}
 use Rattle.record.specs.declared.Test.TheVariants.{Unknown, Cut, Down, Range, Full}
-use Rattle.record.specs.declared.Front.{Front}
-use Rattle.record.specs.declared.Front.TheVariants.{Task, Channel, Rate, Relation, Stopped}
 use Rattle.record.specs.declared.Entry.{Entry}
-use Rattle.record.specs.Heads.{entered}
-use Rattle.record.specs.Fronts.{Counts, Judges, TellsOf, Tells}
+use Rattle.record.specs.declared.Record.{Record as Read}
+use Rattle.record.specs.declared.Record.TheVariants.{Task, Channel, Rate, Relation}
+use Rattle.record.specs.Fields.{entered}
+use Rattle.record.specs.Fronts.{Behind, Judges, TellsOf, Tells}
 
--- a record that passes its tests
-abbrev passed : Record → Front
-passed (task t) = Task t
-passed (channel p c i s) = Channel (record { producer = p; consumer = c; initial = i; size = s })
-passed (rate c s p x) = Rate (record { channel = c; side = s; part = p; tokens = x })
-passed (relation l) = Relation l
+-- the answer to a record that passes its tests
+abbrev passed : Record → Result Read Test
+passed (task t) = Ok (Task t)
+passed (channel p c i s) = Ok (Channel (record { producer = p; consumer = c; initial = i; size = s }))
+passed (rate c s p x) = Ok (Rate (record { channel = c; side = s; part = p; tokens = x }))
+passed (relation l) = Ok (Relation l)
 
 -- the four ways in which the tests of a body end
-data Shown (s : State) (r : Record) : Front → Type 0 where
-  is_down : rank r < s.floor → Shown s r (Stopped Down)
-  is_out : s.floor ≤ rank r → ¬ InRange s.graph r → Shown s r (Stopped Range)
-  is_full : s.floor ≤ rank r → InRange s.graph r → limit r ≤ count s.graph r → Shown s r (Stopped Full)
+data Shown (s : State) (r : Record) : Result Read Test → Type 0 where
+  is_down : rank r < s.floor → Shown s r (Err Down)
+  is_out : s.floor ≤ rank r → ¬ InRange s.graph r → Shown s r (Err Range)
+  is_full : s.floor ≤ rank r → InRange s.graph r → limit r ≤ count s.graph r → Shown s r (Err Full)
   is_in : s.floor ≤ rank r → InRange s.graph r → count s.graph r < limit r → Shown s r (passed r)
 
 -- no list of rates is full
 abbrev Roomy : State → Record → Type 0
 Roomy s r = (e : Entry) → r ≡ entered e → count s.graph r < limit r
 
-shown : (s : State) (r : Record) (f : Front) → Roomy s r → Judges s r f → Shown s r f
-shown s r (Stopped Unknown) h j = absurd j
-shown s r (Stopped Cut) h j = absurd j
-shown s r (Stopped Down) h j = is_down j
-shown s r (Stopped Range) h (o, n) = is_out o n
-shown s r (Stopped Full) h (o, i, l) = is_full o i l
-shown s r (Task t) h (e, g) = subst (Shown s r) (ap passed e) (is_in g.in_order g.in_range g.room)
-shown s r (Channel c) h (e, g) = subst (Shown s r) (ap passed e) (is_in g.in_order g.in_range g.room)
-shown s r (Rate c) h (e, o, i) = subst (Shown s r) (ap passed e) (is_in o i (h c e))
-shown s r (Relation l) h (e, g) = subst (Shown s r) (ap passed e) (is_in g.in_order g.in_range g.room)
+shown : (s : State) (r : Record) (f : Result Read Test) → Roomy s r → Judges s r f → Shown s r f
+shown s r (Err Unknown) h j = absurd j
+shown s r (Err Cut) h j = absurd j
+shown s r (Err Down) h j = is_down j
+shown s r (Err Range) h (o, n) = is_out o n
+shown s r (Err Full) h (o, i, l) = is_full o i l
+shown s r (Ok (Task t)) h (e, g) = subst (Shown s r) (ap passed e) (is_in g.in_order g.in_range g.room)
+shown s r (Ok (Channel c)) h (e, g) = subst (Shown s r) (ap passed e) (is_in g.in_order g.in_range g.room)
+shown s r (Ok (Rate c)) h (e, o, i) = subst (Shown s r) (ap passed e) (is_in o i (h c e))
+shown s r (Ok (Relation l)) h (e, g) = subst (Shown s r) (ap passed e) (is_in g.in_order g.in_range g.room)
 
-shown_one : (s : State) (r : Record) (f g : Front) → Shown s r f → Shown s r g → f ≡ g
+shown_one : (s : State) (r : Record) (f g : Result Read Test) → Shown s r f → Shown s r g → f ≡ g
 shown_one s r f g (is_down a) (is_down b) = refl
 shown_one s r f g (is_down a) (is_out b n) = absurd (omega arith)
 shown_one s r f g (is_down a) (is_full b i l) = absurd (omega arith)
@@ -66,32 +68,14 @@ shown_one s r f g (is_in a j k) (is_out b n) = absurd (n j)
 shown_one s r f g (is_in a j k) (is_full b i l) = absurd (omega arith)
 shown_one s r f g (is_in a j k) (is_in b i l) = refl
 
-tells_one : (s : State) (o : Option Kind) (bs : List ℕ) (f g : Front) → ((r : Record) → Roomy s r) → TellsOf s o bs f → TellsOf s o bs g → f ≡ g
-tells_one s none bs f g h t u = t ∙ sym u
-tells_one s (some k) bs f g h (inl (a, e)) (inl (b, d)) = e ∙ sym d
-tells_one s (some k) bs f g h (inl (a, e)) (inr (b, j)) = absurd (omega arith)
-tells_one s (some k) bs f g h (inr (a, i)) (inl (b, d)) = absurd (omega arith)
-tells_one s (some k) bs f g h (inr (a, i)) (inr (b, j)) =
+tells_one : (s : State) (o : Option Kind) (bs : List ℕ) (f g : Result Read Test) → ((r : Record) → Roomy s r) → TellsOf s o bs f → TellsOf s o bs g → f ≡ g
+tells_one s None bs f g h t u = t ∙ sym u
+tells_one s (Some k) bs f g h (inl (a, e)) (inl (b, d)) = e ∙ sym d
+tells_one s (Some k) bs f g h (inl (a, e)) (inr (b, j)) = absurd (omega arith)
+tells_one s (Some k) bs f g h (inr (a, i)) (inl (b, d)) = absurd (omega arith)
+tells_one s (Some k) bs f g h (inr (a, i)) (inr (b, j)) =
     let r = decode k (take (size k) bs) in
     shown_one s r f g (shown s r f (h r) i) (shown s r g (h r) j)
-
--- some state has the counts, and no rates
-module _ (floor ntasks nchannels nrelations : ℕ) where
-  abbrev some_state : State
-  some_state =
-      record {
-        graph = record { tasks = replicate ntasks no_task; channels = replicate nchannels (bare 0 0 0 0); relations = replicate nrelations no_relation };
-        floor = floor;
-      }
-
-  some_counts : Counts some_state floor ntasks nchannels nrelations
-  some_counts =
-      record {
-        floors = refl;
-        tasks = length-replicate ntasks no_task;
-        channels = length-replicate nchannels (bare 0 0 0 0);
-        relations = length-replicate nrelations no_relation;
-      }
 
 -- an element of a list of one thing, or that thing past its end
 same_thing : {A : Type 0} (n i : ℕ) (a : A) → get_or (replicate n a) i a ≡ a
@@ -115,21 +99,37 @@ some_limit part = go (eqb part 0)
     go true = omega arith
     go false = omega arith
 
-roomy : (floor ntasks nchannels nrelations : ℕ) (r : Record) → Roomy (some_state floor ntasks nchannels nrelations) r
-unfolding count limit
-roomy floor ntasks nchannels nrelations r e is =
-    rw is (omega (
-      arith,
-      some_limit e.part,
-      ap (λ (c : Link). length (list_of c e.side e.part)) (same_thing nchannels e.channel (bare 0 0 0 0)),
-      no_entries e.side e.part,
-    ))
+-- some state has the counts, and no rates
+module _ (behind : Counts) where
+  abbrev some_state : State
+  some_state =
+      record {
+        graph = record { tasks = replicate behind.tasks no_task; channels = replicate behind.channels (bare 0 0 0 0); relations = replicate behind.relations no_relation };
+        floor = behind.floor;
+      }
 
--- what meets the contract of `record::front_at` is one front
-pub front_one : (file : List ℕ) (at floor ntasks nchannels nrelations : ℕ) (f g : Front)
-    → ((s : State) → Counts s floor ntasks nchannels nrelations → Tells file s at f)
-    → ((s : State) → Counts s floor ntasks nchannels nrelations → Tells file s at g) → f ≡ g
-front_one file at floor ntasks nchannels nrelations f g a b =
-    let s = some_state floor ntasks nchannels nrelations in
-    let k = some_counts floor ntasks nchannels nrelations in
-    tells_one s (kind_of (get_or file at 0)) (drop (suc at) file) f g (roomy floor ntasks nchannels nrelations) (a s k) (b s k)
+  some_behind : Behind some_state behind
+  some_behind =
+      record {
+        floors = refl;
+        tasks = length-replicate behind.tasks no_task;
+        channels = length-replicate behind.channels (bare 0 0 0 0);
+        relations = length-replicate behind.relations no_relation;
+      }
+
+  roomy : (r : Record) → Roomy some_state r
+  unfolding count limit
+  roomy r e is =
+      rw is (omega (
+        arith,
+        some_limit e.part,
+        ap (λ (c : Link). length (list_of c e.side e.part)) (same_thing behind.channels e.channel (bare 0 0 0 0)),
+        no_entries e.side e.part,
+      ))
+
+  -- what meets the contract of `record::front_at` is one answer
+  pub front_one : (file : List ℕ) (at : ℕ) (f g : Result Read Test)
+      → ((s : State) → Behind s behind → Tells file s at f)
+      → ((s : State) → Behind s behind → Tells file s at g) → f ≡ g
+  front_one file at f g a b =
+      tells_one some_state (kind_of (get_or file at 0)) (drop (suc at) file) f g roomy (a some_state some_behind) (b some_state some_behind)

@@ -1,42 +1,45 @@
 -- What the tests of one record say of it, behind the counts of what is read. Assumes nothing.
-use Rattle.std.specs.Prelude.{◌≡◌, Bool, true, false, ◌⊎◌, List, ℕ, suc, ◌≤◌, ◌<◌, length, get_or, take, drop}
-use Rattle.std.proofs.Math.Option.{Option, none, some}
-use Rattle.format.specs.Record.{Kind, kind_of, size, Record, task, relation, decode, rank}
+use Rattle.std.specs.Prelude.{◌≡◌, ◌⊎◌, List, ℕ, suc, ◌≤◌, ◌<◌, length, get_or, take, drop, Result, Ok, Err, Option, None, Some}
+use Rattle.format.specs.Record.{Kind, kind_of, size, Record, task, channel, rate, relation, decode, rank}
 use Rattle.format.specs.Reader.{State, InRange, count, limit, Good}
+use Rattle.record.specs.declared.Counts.{Counts}
+use Rattle.record.specs.declared.Test.{Test}
 use Rattle.record.specs.declared.Test.TheVariants.{Unknown, Cut, Down, Range, Full}
-use Rattle.record.specs.declared.Front.{Front}
-use Rattle.record.specs.declared.Front.TheVariants.{Task, Channel, Rate, Relation, Stopped}
-use Rattle.record.specs.Heads.{headed, entered}
+use Rattle.record.specs.declared.Record.{Record as Read}
+use Rattle.record.specs.declared.Record.TheVariants.{Task, Channel, Rate, Relation}
+use Rattle.record.specs.Fields.{headed, entered}
 
--- a test's answer: P holds where it is true and not where it is false
-abbrev pub Decides : Bool → Type 0 → Type 0
-Decides true P = P
-Decides false P = ¬ P
+-- the counts are those of the state: its floor, and how many records of each kind it has
+pub record Behind (s : State) (behind : Counts) : Type 0 where
+  pub floors : s.floor ≡ behind.floor
+  pub tasks : length s.graph.tasks ≡ behind.tasks
+  pub channels : length s.graph.channels ≡ behind.channels
+  pub relations : length s.graph.relations ≡ behind.relations
 
--- how many records of each kind the state has, and its floor
-pub record Counts (s : State) (floor ntasks nchannels nrelations : ℕ) : Type 0 where
-  pub floors : s.floor ≡ floor
-  pub tasks : length s.graph.tasks ≡ ntasks
-  pub channels : length s.graph.channels ≡ nchannels
-  pub relations : length s.graph.relations ≡ nrelations
+-- the count of the record's sort is below its limit; of a rate this is still to come
+abbrev pub Room : State → Record → Type 0
+Room s (task t) = count s.graph (task t) < limit (task t)
+Room s (channel p c i n) = count s.graph (channel p c i n) < limit (channel p c i n)
+Room s (rate c d p x) = Unit {0}
+Room s (relation l) = count s.graph (relation l) < limit (relation l)
 
 -- the record r, whose kind and length are right, as the other tests judge it
-abbrev pub Judges : State → Record → Front → Type 0
-Judges s r (Stopped Unknown) = ⊥
-Judges s r (Stopped Cut) = ⊥
-Judges s r (Stopped Down) = rank r < s.floor
-Judges s r (Stopped Range) = (s.floor ≤ rank r) × ¬ InRange s.graph r
-Judges s r (Stopped Full) = (s.floor ≤ rank r) × InRange s.graph r × (limit r ≤ count s.graph r)
-Judges s r (Task t) = (r ≡ task t) × Good s r
-Judges s r (Channel h) = (r ≡ headed h) × Good s r
-Judges s r (Rate e) = (r ≡ entered e) × (s.floor ≤ rank r) × InRange s.graph r
-Judges s r (Relation l) = (r ≡ relation l) × Good s r
+abbrev pub Judges : State → Record → Result Read Test → Type 0
+Judges s r (Err Unknown) = ⊥
+Judges s r (Err Cut) = ⊥
+Judges s r (Err Down) = rank r < s.floor
+Judges s r (Err Range) = (s.floor ≤ rank r) × ¬ InRange s.graph r
+Judges s r (Err Full) = (s.floor ≤ rank r) × InRange s.graph r × (limit r ≤ count s.graph r)
+Judges s r (Ok (Task t)) = (r ≡ task t) × Good s r
+Judges s r (Ok (Channel h)) = (r ≡ headed h) × Good s r
+Judges s r (Ok (Rate e)) = (r ≡ entered e) × (s.floor ≤ rank r) × InRange s.graph r
+Judges s r (Ok (Relation l)) = (r ≡ relation l) × Good s r
 
 -- what stands at a kind byte with these bytes behind it: the first test that fires, or the record
-abbrev pub TellsOf : State → Option Kind → List ℕ → Front → Type 0
-TellsOf s none bs f = f ≡ Stopped Unknown
-TellsOf s (some k) bs f = ((length bs < size k) × (f ≡ Stopped Cut)) ⊎ ((size k ≤ length bs) × Judges s (decode k (take (size k) bs)) f)
+abbrev pub TellsOf : State → Option Kind → List ℕ → Result Read Test → Type 0
+TellsOf s None bs f = f ≡ Err Unknown
+TellsOf s (Some k) bs f = ((length bs < size k) × (f ≡ Err Cut)) ⊎ ((size k ≤ length bs) × Judges s (decode k (take (size k) bs)) f)
 
 -- what stands at byte `at` of the file
-abbrev pub Tells : List ℕ → State → ℕ → Front → Type 0
+abbrev pub Tells : List ℕ → State → ℕ → Result Read Test → Type 0
 Tells file s at f = TellsOf s (kind_of (get_or file at 0)) (drop (suc at) file) f

@@ -1,2 +1,2 @@
-pub mod Signed
-pub mod Lookup
+mod Signed
+mod Lookup

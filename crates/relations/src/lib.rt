@@ -1,107 +1,71 @@
-// Test 10: relations, by equations 7 and 8 of source 004, in signed whole numbers.
+// Test 10: relations, by their two equations in signed whole numbers.
 #![tactic(auto)]
 
-ghost use Rattle.std.specs.Prelude.{◌≡◌, ◌≤◌, ◌<◌, true, false, take};
-ghost use Rattle.graph.specs.Model.{max_tasks, max_relations};
+ghost use Rattle.std.specs.Prelude.{◌≡◌, ◌↔◌, IsTrue, length};
 ghost use Rattle.numbers.specs.Lists.{All};
 ghost use Rattle.reply.specs.Found.{Finds};
-ghost use Rattle.format.specs.Ranges.{TaskRange, RelationRange};
+ghost use Rattle.format.specs.Ranges.{RelationRange};
 ghost use Rattle.rules.specs.Given.{Of};
 ghost use Rattle.rules.specs.Rules.{Holds, Fails};
 ghost use Rattle.relations.specs.Find.{found};
 ghost use Rattle.relations.specs.Relation.{Equations, Small, Both};
 
-use graph::{Graph, Relation, Task};
-use reply::Found;
+use graph::{Relation, Task};
+use tasks::Tasks;
 
-// What a task's number finds in the list: its period and offset, or nothing.
-#[derive(Clone, Copy)]
-pub enum Named {
-    At { period: u32, offset: u32 },
-    Nothing,
+// A task's period and offset.
+#[derive(Clone, Copy, PartialEq, Eq)]
+pub struct Times {
+    pub period: u32,
+    pub offset: u32,
 }
 
-// The period and offset of task i of a lent list.
-fn find(tasks: &[Task], i: usize) -> Named
+// The period and offset of task i, or nothing where the number names no task.
+pub fn find(tasks: &[Task], i: usize) -> Option<Times>
     ensures { result ≡ found tasks.now i }
 {
-    if i < tasks.len() {
-        Named::At {
-            period: tasks[i].period,
-            offset: tasks[i].offset,
-        }
-    } else {
-        Named::Nothing
-    }
+    let task = tasks.get(i)?;
+    Some(Times {
+        period: task.period,
+        offset: task.offset,
+    })
 }
 
-// The same of the first n of an array, which are lent.
-pub fn find_among(tasks: [Task; Graph::TASKS], n: usize, i: usize) -> Named
-    requires { n ≤ max_tasks }
-    ensures { result ≡ found (take n tasks) i }
+// d × T_p = n × T_q, and n × (O_q − O_p) = φ × T_p.
+fn equations(p: Times, q: Times, relation: &Relation) -> bool
+    requires { Small p q relation.now }
+    ensures { IsTrue result ↔ Equations p q relation.now }
 {
-    find(&tasks[..n], i)
+    let n = relation.n as i64;
+    let left = n * (q.offset as i64 - p.offset as i64);
+    let right = relation.phi as i64 * p.period as i64;
+    relation.d as i64 * p.period as i64 == n * q.period as i64 && left == right
 }
 
-// Equations 7 and 8: d × T_p = n × T_q, and n × (O_q − O_p) = φ × T_p.
-fn equations(tp: u32, op: u32, tq: u32, oq: u32, n: u32, phi: i32, d: u32) -> bool
-    requires { Small tp op tq oq n phi d }
-    ensures equations { result ≡ true → Equations tp op tq oq n phi d }
-    ensures not_equations { result ≡ false → ¬ Equations tp op tq oq n phi d }
+// The relation holds among the tasks.
+fn holds(tasks: &Tasks, relation: &Relation) -> bool
+    requires { RelationRange (length tasks.now) relation.now }
+    ensures { Of tasks.now (λ g. IsTrue result ↔ Holds g relation.now) }
 {
-    if (d as u64) * (tp as u64) != (n as u64) * (tq as u64) {
-        return false;
-    }
-    let left = (n as i64) * ((oq as i64) - (op as i64));
-    let right = (phi as i64) * (tp as i64);
-    if left == right { true } else { false }
-}
-
-// The relation holds among the first n tasks.
-fn holds(tasks: [Task; Graph::TASKS], n: usize, relation: Relation) -> bool
-    requires n_le_max_tasks { n ≤ max_tasks }
-    requires all { All TaskRange (take n tasks) }
-    requires relation_range { RelationRange n relation }
-    ensures { Of (take n tasks) (λ g. (result ≡ true → Holds g relation) × (result ≡ false → ¬ Holds g relation)) }
-{
-    let first = find_among(tasks, n, relation.p as usize);
-    let second = find_among(tasks, n, relation.q as usize);
-    let Named::At {
-        period: tp,
-        offset: op,
-    } = first
-    else {
+    let list = tasks.list();
+    let (Some(p), Some(q)) = (
+        find(list, relation.p as usize),
+        find(list, relation.q as usize),
+    ) else {
         return false;
     };
-    let Named::At {
-        period: tq,
-        offset: oq,
-    } = second
-    else {
-        return false;
-    };
-    equations(tp, op, tq, oq, relation.n, relation.phi, relation.d)
+    equations(p, q, relation)
 }
 
 // Test 10: the first relation that is false.
-pub fn false_relation(
-    tasks: [Task; Graph::TASKS],
-    n: usize,
-    relations: [Relation; Graph::RELATIONS],
-    m: usize,
-) -> Found
-    requires n_le_max_tasks { n ≤ max_tasks }
-    requires m_le_max_relations { m ≤ max_relations }
-    requires all { All TaskRange (take n tasks) }
-    requires all_2 { All (RelationRange n) (take m relations) }
-    ensures { Both (take n tasks) (take m relations) (λ g. Finds (Fails g) m result) }
+pub fn false_relation(tasks: &Tasks, relations: &[Relation]) -> Option<usize>
+    requires { All (RelationRange (length tasks.now)) relations.now }
+    ensures { Both tasks.now relations.now (λ g. Finds (Fails g) (length relations.now) result) }
 {
-    let mut i: usize = 0;
-    while i < m {
-        if !holds(tasks, n, relations[i]) {
-            return Found::At { index: i };
+    for (i, relation) in relations.iter().enumerate() {
+        if !holds(tasks, relation) {
+            return Some(i);
         }
-        i += 1;
     }
-    Found::Nothing
+    None
 }

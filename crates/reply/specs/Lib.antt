@@ -1,2 +1,3 @@
 pub mod Reply
 pub mod Found
+pub mod Line

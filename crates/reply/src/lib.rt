@@ -1,13 +1,15 @@
 // What the checker, the reader and the writer answer, each case in words, and the three numbers of each.
 #![tactic(auto)]
 
-ghost use Rattle.std.specs.Prelude.{◌≡◌};
+ghost use Rattle.std.specs.Prelude.{◌≡◌, Some};
 ghost use Rattle.reply.specs.Reply.{numbered};
+ghost use Rattle.reply.specs.Line.{line};
 
-#[derive(Clone, Copy)]
-pub enum Reply {
-    // 0: accepted, read or written
-    Accepted { tasks: usize },
+use std::fmt;
+
+// What is found wrong.
+#[derive(Clone, Copy, PartialEq, Eq)]
+pub enum Refusal {
     // 1 to 5: a record of the file; the place is the offset of its kind byte
     UnknownKind { at: usize },
     CutShort { at: usize },
@@ -34,15 +36,11 @@ pub enum Reply {
     ShortOutput { needed: usize },
 }
 
-// What a search through numbered items finds: none that fails, or the first that does.
-#[derive(Clone, Copy)]
-pub enum Found {
-    Nothing,
-    At { index: usize },
-}
+// Accepted, read or written, with the number of tasks, or else refused.
+pub type Reply = Result<usize, Refusal>;
 
-// The numbers that document 01 gives a reply.
-#[derive(Clone, Copy)]
+// The numbers that a reply is printed and exported as: which reply, where, and the job.
+#[derive(Clone, Copy, PartialEq, Eq)]
 pub struct Numbers {
     pub number: u32,
     pub place: usize,
@@ -52,37 +50,60 @@ pub struct Numbers {
 fn three(number: u32, place: usize, job: u64) -> Numbers
     ensures { result ≡ record { number = number; place = place; job = job } }
 {
-    Numbers {
-        number: number,
-        place: place,
-        job: job,
+    Numbers { number, place, job }
+}
+
+impl From<Reply> for Numbers {
+    ghost from_gives = { λ reply numbers. numbers ≡ numbered reply };
+
+    fn from(reply: Reply) -> Numbers {
+        match reply {
+            Ok(tasks) => three(0, tasks, 0),
+            Err(Refusal::UnknownKind { at }) => three(1, at, 0),
+            Err(Refusal::CutShort { at }) => three(2, at, 0),
+            Err(Refusal::OutOfOrder { at }) => three(3, at, 0),
+            Err(Refusal::OutOfRange { at }) => three(4, at, 0),
+            Err(Refusal::TooMany { at }) => three(5, at, 0),
+            Err(Refusal::NoTask) => three(6, 0, 0),
+            Err(Refusal::EmptyCycle { place }) => three(7, place, 0),
+            Err(Refusal::SamePriority { task }) => three(8, task, 0),
+            Err(Refusal::ShortReport { tasks }) => three(9, tasks, 0),
+            Err(Refusal::FalseRelation { relation }) => three(10, relation, 0),
+            Err(Refusal::Late { task }) => three(11, task, 0),
+            Err(Refusal::Overloaded) => three(12, 0, 0),
+            Err(Refusal::InitialAboveSize { channel }) => three(13, channel, 0),
+            Err(Refusal::Unbalanced { channel }) => three(14, channel, 0),
+            Err(Refusal::WindowTooLong { channel }) => three(15, channel, 0),
+            Err(Refusal::Underflow { channel, job }) => three(16, channel, job),
+            Err(Refusal::Overflow { channel, job }) => three(17, channel, job),
+            Err(Refusal::NoFile) => three(18, 0, 0),
+            Err(Refusal::ShortOutput { needed }) => three(19, needed, 0),
+        }
     }
 }
 
-// The number, place and job of a reply.
-pub fn numbers_of(reply: Reply) -> Numbers
-    ensures { result ≡ numbered reply }
-{
-    match reply {
-        Reply::Accepted { tasks } => three(0, tasks, 0),
-        Reply::UnknownKind { at } => three(1, at, 0),
-        Reply::CutShort { at } => three(2, at, 0),
-        Reply::OutOfOrder { at } => three(3, at, 0),
-        Reply::OutOfRange { at } => three(4, at, 0),
-        Reply::TooMany { at } => three(5, at, 0),
-        Reply::NoTask => three(6, 0, 0),
-        Reply::EmptyCycle { place } => three(7, place, 0),
-        Reply::SamePriority { task } => three(8, task, 0),
-        Reply::ShortReport { tasks } => three(9, tasks, 0),
-        Reply::FalseRelation { relation } => three(10, relation, 0),
-        Reply::Late { task } => three(11, task, 0),
-        Reply::Overloaded => three(12, 0, 0),
-        Reply::InitialAboveSize { channel } => three(13, channel, 0),
-        Reply::Unbalanced { channel } => three(14, channel, 0),
-        Reply::WindowTooLong { channel } => three(15, channel, 0),
-        Reply::Underflow { channel, job } => three(16, channel, job),
-        Reply::Overflow { channel, job } => three(17, channel, job),
-        Reply::NoFile => three(18, 0, 0),
-        Reply::ShortOutput { needed } => three(19, needed, 0),
+// The line that a program prints for a reply, with no line feed.
+impl fmt::Display for Numbers {
+    ghost output = { λ numbers. Some (line numbers) };
+
+    fn fmt<W: fmt::Write>(&self, f: &mut fmt::Formatter<W>) -> fmt::Result {
+        let (number, place, job) = (self.number, self.place, self.job);
+        write!(f, "{number} {place} {job}")
+    }
+}
+
+#[cfg(test)]
+mod tests {
+    use super::*;
+    use std::alloc::AllocError;
+
+    #[test]
+    fn prints_number_place_and_job(rt: HostRuntime) -> Result<(), AllocError> {
+        let overflow: Reply = Err(Refusal::Overflow { channel: 2, job: 3 });
+        let line = format!(in rt.alloc(); "{}", Numbers::from(overflow))?;
+        assert_eq!(rt; line.as_str(), "17 2 3");
+        let line = format!(in rt.alloc(); "{}", Numbers::from(Ok(32)))?;
+        assert_eq!(rt; line.as_str(), "0 32 0");
+        Ok(())
     }
 }

@@ -1,4 +1,3 @@
-pub mod Places
+mod Rivals
 pub mod Once
-pub mod Gathered
-pub mod Figured
+mod Figured

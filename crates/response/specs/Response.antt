@@ -1,26 +1,24 @@
 -- What the response of one task and of all tasks says of a graph. Assumes nothing.
-use Rattle.std.specs.Prelude.{◌≡◌, List, ℕ, ◌≤◌, ◌<◌, get_or}
+use Rattle.std.specs.Prelude.{◌≡◌, List, ℕ, ◌≤◌, ◌<◌, get_or, length, Option, Some, None, Result, Ok, Err}
 use Rattle.machine.specs.Machine.{IsResponse}
-use Rattle.graph.specs.Model.{Graph}
-use Rattle.reply.specs.declared.Found.{Found}
-use Rattle.reply.specs.declared.Found.TheVariants.{Nothing, At}
+use Rattle.graph.specs.Model.{Graph, max_tasks}
 use Rattle.reply.specs.Found.{Finds}
 use Rattle.rules.specs.Terms.{machine}
 use Rattle.rules.specs.Rules.{Misses}
-use Rattle.response.specs.declared.Response.{Response}
-use Rattle.response.specs.declared.Response.TheVariants.{Late, Within}
 
 -- task i is late, or that is its response time
-abbrev pub Responds : Graph → ℕ → Response → Type 0
-Responds g i Late = Misses g i
-Responds g i (Within r) = IsResponse (machine g) i r
+abbrev pub Responds : Graph → ℕ → Option ℕ → Type 0
+Responds g i None = Misses g i
+Responds g i (Some r) = IsResponse (machine g) i r
 
--- where no task is late, R of the first n tasks and zero behind them, and otherwise zero
-abbrev pub Figures : Graph → ℕ → List ℕ → Found → Type 0
-Figures g n l Nothing = ((i : ℕ) → i < n → IsResponse (machine g) i (get_or l i 0)) × ((i : ℕ) → n ≤ i → get_or l i 0 ≡ 0)
-Figures g n l (At k) = (i : ℕ) → get_or l i 0 ≡ 0
+-- R of the first n tasks, of which none is late, and zero behind them
+pub record Figures (g : Graph) (n : ℕ) (l : List ℕ) : Type 0 where
+  pub size : length l ≡ max_tasks
+  pub none_late : Finds (Misses g) n None
+  pub responses : (i : ℕ) → i < n → IsResponse (machine g) i (get_or l i 0)
+  pub rest : (i : ℕ) → n ≤ i → get_or l i 0 ≡ 0
 
--- the first late task, and the figures
-pub record Judged (g : Graph) (n : ℕ) (l : List ℕ) (late : Found) : Type 0 where
-  pub first : Finds (Misses g) n late
-  pub figures : Figures g n l late
+-- the figures, or the first late task
+abbrev pub Judged : Graph → ℕ → Result (List ℕ) ℕ → Type 0
+Judged g n (Ok l) = Figures g n l
+Judged g n (Err i) = Finds (Misses g) n (Some i)

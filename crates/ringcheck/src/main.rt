@@ -8,6 +8,7 @@ use std::io;
 use std::io::{Read, Write};
 
 // Fills a buffer from its front, as far as the input goes: the answer is how many bytes it gave.
+// Kept: no heap. Of the library's methods `read_exact` fails where the input ends, and `read_to_end` asks for memory.
 fn read_full<R: Read>(input: &mut R, file: &mut [u8]) -> io::Result<usize>
     ensures bound { IfOk result (λ n. n ≤ length file.new) }
     ensures bytes { IfOk result (λ n. IfSome (R.remaining input.old) (λ xs. take n file.new ≡ take (length file.new) xs)) }

@@ -14,7 +14,8 @@ use Rattle.numbers.proofs.Least.{least_is}
 use Rattle.machine.specs.Machine.{demand}
 use Rattle.graph.specs.Model.{Graph, count, task}
 use Rattle.rules.specs.Terms.{cost, machine}
-use Rattle.reply.specs.declared.Reply.TheVariants.{Accepted, SamePriority}
+use Rattle.std.specs.Prelude.{Ok}
+use Rattle.reply.specs.declared.Refusal.TheVariants.{SamePriority}
 use Rattle.rules.specs.Rules.{Answers}
 use Rattle.rules.specs.Agree.{Alike, Shares}
 use Rattle.rules.proofs.Tests.{response_unique}
@@ -94,7 +95,7 @@ back : {g h : Graph} {i j : ℕ} → Alike g i h j → Alike h j g i
 back a = record { period = sym a.period; deadline = sym a.deadline; cost = sym a.cost; priority = sym a.priority }
 
 -- the reports l and l' of two accepted graphs, at a task that both have, wherever it stands in them
-module _ (g h : Graph) (room room' : ℕ) (m m' : ℕ) (l l' : List ℕ) (ag : Answers g room (Accepted m) l) (ah : Answers h room' (Accepted m') l')
+module _ (g h : Graph) (room room' : ℕ) (m m' : ℕ) (l l' : List ℕ) (ag : Answers g room (Ok m) l) (ah : Answers h room' (Ok m') l')
     (n : ℕ) (gh : Shares n g h) (hg : Shares n h g) where
   pub same_figures : (i j : ℕ) → i < count g → j < count h → (task g i).priority ≤ n → Alike g i h j → get_or l i 0 ≡ get_or l' j 0
   same_figures i j li lj p a =

@@ -2,7 +2,7 @@
 use mathlib.Core.Path.{◌≡◌, sym, subst, ◌∙◌}
 use mathlib.Core.List.{List}
 use Prim.Native.Nat.{ℕ}
-use Rattle.reply.specs.declared.Reply.{Reply}
+use Rattle.reply.specs.Reply.{Reply}
 use Rattle.format.specs.Reader as files
 use Rattle.format.proofs.Reading.{read_answers, one_answer}
 use Rattle.format.proofs.Formed.{reads_formed}

@@ -1,4 +1,4 @@
--- Demand 3: in every execution of an accepted graph each job is served in time, and no queue leaves its bounds. Assumes nothing.
+-- In every execution of an accepted graph each job is served in time, and no queue leaves its bounds. Assumes nothing.
 use mathlib.Core.Path.{◌≡◌, refl, sym, ap}
 use mathlib.Core.List.{List}
 use mathlib.Core.Logic.{◌⊎◌, inl, inr}
@@ -8,6 +8,7 @@ use native.Mathlib.Decide.{ℕ_discrete}
 use native.Mathlib.Omega.{arith}
 use borrow.Author.Tests.{lt-ltb}
 use lib.ListN.{length, get_or}
+use Rattle.std.specs.Prelude.{Ok}
 use Rattle.numbers.specs.Numbers.{sum}
 use Rattle.numbers.proofs.Sums.{cases, sum_suc, sum_ext, sum_plus, sum_swap, sum_le, sum_nought, sum_only}
 use Rattle.machine.specs.Machine.{Slot, idle, job, tick, Tested, Served}
@@ -18,18 +19,17 @@ use Rattle.channel.proofs.Jobs.{release_late}
 use Rattle.channel.proofs.Parts.{parts_stay}
 use Rattle.graph.specs.Model.{Rates, Graph, count, task, link}
 use Rattle.rules.specs.Terms.{machine, window, side, channel, Usable, response}
-use Rattle.reply.specs.declared.Reply.{Reply}
-use Rattle.reply.specs.declared.Reply.TheVariants.{Accepted, SamePriority, Late, InitialAboveSize, Unbalanced, Underflow, Overflow}
-use Rattle.rules.specs.Rules.{Refuses, Replies, passes, fails, Answers}
+use Rattle.reply.specs.declared.Refusal.{Refusal}
+use Rattle.reply.specs.declared.Refusal.TheVariants.{SamePriority, Late, InitialAboveSize, Unbalanced, Underflow, Overflow}
+use Rattle.rules.specs.Rules.{Refuses, Replies, passes, Answers}
 use Rattle.rules.specs.Execution.{Moves, Execution, Within, Kept}
 use Rattle.rules.proofs.Exact.{to_passes}
 use Rattle.rules.proofs.Tests.{late_tests, figure, response_unique, sound_producer, sound_consumer}
 
 -- ---- what acceptance says
 
-pub unrefused : (g : Graph) (room : ℕ) {n : ℕ} → Replies g room (Accepted n) → (s : Reply) → ¬ Refuses g room s
+pub unrefused : (g : Graph) (room : ℕ) {n : ℕ} → Replies g room (Ok n) → (s : Refusal) → ¬ Refuses g room s
 unrefused g room (passes a) = a
-unrefused g room (fails r h l) = absurd h
 
 pub distinct : (g : Graph) (room : ℕ) → ((i : ℕ) → ¬ Refuses g room (SamePriority i))
     → (i j : ℕ) → i < count g → j < count g → (task g i).priority ≡ (task g j).priority → i ≡ j
@@ -38,7 +38,7 @@ distinct g room none i j li lj e =
     (λ h. cases j i (λ h'. omega arith) (λ h'. absurd (none j (lj, (i, h', e)))))
     (λ h. absurd (none i (li, (j, h, sym e))))
 
-module _ (g : Graph) (ok : Usable g) (room : ℕ) (none : (s : Reply) → ¬ Refuses g room s) where
+module _ (g : Graph) (ok : Usable g) (room : ℕ) (none : (s : Refusal) → ¬ Refuses g room s) where
   pub punctual : (i : ℕ) → i < count g → response g i ≤ (task g i).deadline
   punctual i l = cases (response g i) (task g i).deadline (λ h. h) (λ h. absurd (none (Late i) (l, (late_tests g i).0 (lt-ltb _ _ h))))
 
@@ -171,8 +171,8 @@ module _ (g : Graph) (ok : Usable g) (room : ℕ) (none : (s : Reply) → ¬ Ref
         (suc t) (suc t) here_p here_q in
         omega arith
 
--- demand 3
-pub kept : (g : Graph) → Usable g → (room n : ℕ) (l : List ℕ) → Answers g room (Accepted n) l → (e : Execution g) → Kept g l e
+-- what an accepted graph is promised
+pub kept : (g : Graph) → Usable g → (room n : ℕ) (l : List ℕ) → Answers g room (Ok n) l → (e : Execution g) → Kept g l e
 kept g ok room n l a e =
     let none = unrefused g room a.replies in
     let reported : (i : ℕ) → i < count g → get_or l i 0 ≡ response g i = λ i h.

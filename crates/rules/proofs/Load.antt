@@ -8,12 +8,13 @@ use native.Mathlib.Decide.{ℕ_discrete}
 use native.Mathlib.Omega.{arith}
 use borrow.Author.Tests.{lt-ltb, eq-eqb, ne_eqb}
 use lib.Dec.{eqb}
+use Rattle.std.specs.Prelude.{Err}
 use Rattle.numbers.specs.Numbers.{sum, ceil}
 use Rattle.numbers.proofs.Sums.{cases, extend, sum_zero, sum_mono, sum_plus, sum_times, sum_only, ceil_enough}
 use Rattle.machine.specs.Machine.{above, demand}
 use Rattle.graph.specs.Model.{Graph, count, task}
 use Rattle.rules.specs.Terms.{cost, machine, Usable}
-use Rattle.reply.specs.declared.Reply.TheVariants.{Late, Overloaded, SamePriority}
+use Rattle.reply.specs.declared.Refusal.TheVariants.{Late, Overloaded, SamePriority}
 use Rattle.rules.specs.Rules.{load, Refuses, Replies, fails}
 use Rattle.rules.proofs.Kept.{distinct}
 
@@ -94,7 +95,7 @@ overloaded_late g ok room differ more =
     (i, (l, overload_late g ok i l last more))
 
 -- number 12 is never given
-pub never_overloaded : (g : Graph) → Usable g → (room : ℕ) → ¬ Replies g room Overloaded
+pub never_overloaded : (g : Graph) → Usable g → (room : ℕ) → ¬ Replies g room (Err Overloaded)
 never_overloaded g ok room (fails r h first) =
     let (i, k) = overloaded_late g ok room (λ j s. first (SamePriority j) s (inl (omega arith))) h in
     first (Late i) k (inl (omega arith))

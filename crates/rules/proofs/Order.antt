@@ -7,18 +7,18 @@ use Prim.Native.Nat.{ℕ, ◌<◌}
 use native.Mathlib.Omega.{arith}
 use lib.Dec.{eqb}
 use lib.ListN.{length}
+use Rattle.std.specs.Prelude.{Err}
 use Rattle.graph.specs.Model.{Graph}
-use Rattle.reply.specs.declared.Reply.{Reply}
-use Rattle.reply.specs.declared.Reply.TheVariants.{Accepted, SamePriority, ShortReport, FalseRelation, Late, Overloaded, InitialAboveSize, Unbalanced, WindowTooLong, Underflow, Overflow, UnknownKind, CutShort, OutOfOrder, OutOfRange, TooMany, NoTask, EmptyCycle, NoFile, ShortOutput}
-use Rattle.reply.specs.Reply.{number, place, job}
+use Rattle.reply.specs.declared.Refusal.{Refusal}
+use Rattle.reply.specs.declared.Refusal.TheVariants.{SamePriority, ShortReport, FalseRelation, Late, Overloaded, InitialAboveSize, Unbalanced, WindowTooLong, Underflow, Overflow, UnknownKind, CutShort, OutOfOrder, OutOfRange, TooMany, NoTask, EmptyCycle, NoFile, ShortOutput}
+use Rattle.reply.specs.Reply.{Reply, number, place, job}
 use Rattle.rules.specs.Order.{key, Sooner}
 use Rattle.rules.specs.Rules.{Replies, passes, fails}
 
--- the reply of a number, a place and a job
-abbrev pub named : ℕ → ℕ → ℕ → Reply
+-- the refusal of a number, a place and a job
+abbrev pub named : ℕ → ℕ → ℕ → Refusal
 named n p j =
-    cond (eqb n 0) (Accepted p)
-    (cond (eqb n 1) (UnknownKind p)
+    cond (eqb n 1) (UnknownKind p)
     (cond (eqb n 2) (CutShort p)
     (cond (eqb n 3) (OutOfOrder p)
     (cond (eqb n 4) (OutOfRange p)
@@ -35,10 +35,9 @@ named n p j =
     (cond (eqb n 15) (WindowTooLong p)
     (cond (eqb n 16) (Underflow p j)
     (cond (eqb n 17) (Overflow p j)
-    (cond (eqb n 18) NoFile (ShortOutput p)))))))))))))))))))
+    (cond (eqb n 18) NoFile (ShortOutput p))))))))))))))))))
 
-named_is : (r : Reply) → r ≡ named (number r) (place r) (job r)
-named_is (Accepted x) = refl
+named_is : (r : Refusal) → r ≡ named (number (Err r)) (place (Err r)) (job (Err r))
 named_is (UnknownKind x) = refl
 named_is (CutShort x) = refl
 named_is (OutOfOrder x) = refl
@@ -59,9 +58,9 @@ named_is (Overflow x y) = refl
 named_is NoFile = refl
 named_is (ShortOutput x) = refl
 
--- a reply is known by its number
-pub named_at : (r : Reply) (n : ℕ) → number r ≡ n → r ≡ named n (place r) (job r)
-named_at r n e = named_is r ∙ ap (λ x. named x (place r) (job r)) e
+-- a refusal is known by its number
+pub named_at : (r : Refusal) (n : ℕ) → number (Err r) ≡ n → r ≡ named n (place (Err r)) (job (Err r))
+named_at r n e = named_is r ∙ ap (λ x. named x (place (Err r)) (job (Err r))) e
 
 pub irreflexive : (xs : List ℕ) → ¬ Sooner xs xs
 irreflexive [] h = h
@@ -80,16 +79,16 @@ total (x ∷ xs) (y ∷ ys) l a b =
     let t : xs ≡ ys = total xs ys (omega arith) (λ h. a (inr (e, h))) (λ h. b (inr (sym e, h))) in
     cc
 
-same_key : (r s : Reply) → key r ≡ key s → r ≡ s
+same_key : (r s : Refusal) → key r ≡ key s → r ≡ s
 same_key r s e =
-    let p : place r ≡ place s = cc in
-    let n : number r ≡ number s = cc in
-    let j : job r ≡ job s = cc in
-    named_at r (number s) n ∙ ap (λ x. named (number s) x (job r)) p ∙ ap (named (number s) (place s)) j ∙ sym (named_is s)
+    let p : place (Err r) ≡ place (Err s) = cc in
+    let n : number (Err r) ≡ number (Err s) = cc in
+    let j : job (Err r) ≡ job (Err s) = cc in
+    named_at r (number (Err s)) n ∙ ap (λ x. named (number (Err s)) x (job (Err r))) p ∙ ap (named (number (Err s)) (place (Err s))) j ∙ sym (named_is s)
 
 -- one reply to one graph and room
 pub determined : (g : Graph) (room : ℕ) {r s : Reply} → Replies g room r → Replies g room s → r ≡ s
 determined g room (passes a) (passes b) = refl
 determined g room (passes a) (fails s b c) = absurd (a s b)
 determined g room (fails r a b) (passes c) = absurd (c r a)
-determined g room (fails r a b) (fails s c d) = same_key r s (total (key r) (key s) refl (d r a) (b s c))
+determined g room (fails r a b) (fails s c d) = ap Err (same_key r s (total (key r) (key s) refl (d r a) (b s c)))

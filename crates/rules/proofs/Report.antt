@@ -2,20 +2,19 @@
 use mathlib.Core.Path.{◌≡◌, refl, sym, ap, ◌∙◌}
 use mathlib.Core.Bool.{cond}
 use mathlib.Core.List.{List, [], ◌∷◌, ◌++◌}
-use mathlib.Core.Option.{Option, none, some}
 use Prim.Native.Nat.{ℕ, zero, suc, ◌+◌, ◌<◌}
 use native.Mathlib.Omega.{arith}
 use borrow.Author.Tests.{ne_eqb}
 use lib.Dec.{eqb}
 use lib.ListN.{length, get_or, length-append, get_or-append}
 use lib.Seq.{ext_get_or, get_or-append-add}
+use Rattle.std.specs.Prelude.{Option, Some, None, Ok, Err}
 use Rattle.numbers.proofs.Sums.{extend}
 use Rattle.graph.specs.Model.{Graph, count}
 use Rattle.rules.specs.Terms.{machine, Usable, response}
 use Rattle.machine.specs.Machine.{IsResponse}
-use Rattle.reply.specs.declared.Reply.{Reply}
-use Rattle.reply.specs.declared.Reply.TheVariants.{Accepted}
-use Rattle.reply.specs.Reply.{number}
+use Rattle.reply.specs.declared.Refusal.{Refusal}
+use Rattle.reply.specs.Reply.{Reply, number}
 use Rattle.rules.specs.Rules.{Answers}
 use Rattle.rules.specs.Check.{found, given, reply, listed, shown, report}
 use Rattle.rules.proofs.Order.{determined}
@@ -40,25 +39,25 @@ listed_at f (suc n) i h =
 
 module _ (g : Graph) (room : ℕ) where
   -- a refusal reports nothing
-  pub refused_answers : (r : Reply) → Earliest g room (Upto 14) (some r) → Answers g room r []
+  pub refused_answers : (r : Refusal) → Earliest g room (Upto 14) (Some r) → Answers g room (Err r) []
   refused_answers r f =
       record {
-        replies = given_replies g room (some r) f;
+        replies = given_replies g room (Some r) f;
         reports = record {
-          size = ap (λ b. cond b (count g) 0) (sym (ne_eqb (number r) 0 (λ e. omega (arith, known g room r f.1))));
+          size = ap (λ b. cond b (count g) 0) (sym (ne_eqb (number (Err r)) 0 (λ e. omega (arith, known g room r f.1))));
           figures = λ i l. absurd (omega arith);
         };
       }
 
   -- an accepted graph reports R of every task
-  pub accepted_answers : (l : List ℕ) → Earliest g room (Upto 14) none → length l ≡ count g → ((i : ℕ) → i < count g → IsResponse (machine g) i (get_or l i 0)) → Answers g room (Accepted (count g)) l
-  accepted_answers l f n h = record { replies = given_replies g room none f; reports = record { size = n; figures = λ i k. h i (omega arith) } }
+  pub accepted_answers : (l : List ℕ) → Earliest g room (Upto 14) None → length l ≡ count g → ((i : ℕ) → i < count g → IsResponse (machine g) i (get_or l i 0)) → Answers g room (Ok (count g)) l
+  accepted_answers l f n h = record { replies = given_replies g room None f; reports = record { size = n; figures = λ i k. h i (omega arith) } }
 
-  shown_answers : Usable g → (o : Option Reply) → Earliest g room (Upto 14) o → Answers g room (given o (count g)) (shown o (listed (response g) (count g)))
-  shown_answers ok none f =
+  shown_answers : Usable g → (o : Option Refusal) → Earliest g room (Upto 14) o → Answers g room (given o (count g)) (shown o (listed (response g) (count g)))
+  shown_answers ok None f =
       accepted_answers (listed (response g) (count g)) f (length_listed (response g) (count g))
-      (λ i l. rw (listed_at (response g) (count g) i l) (figure g i (punctual g ok room (unrefused g room (given_replies g room none f)) i l)))
-  shown_answers ok (some r) f = refused_answers r f
+      (λ i l. rw (listed_at (response g) (count g) i l) (figure g i (punctual g ok room (unrefused g room (given_replies g room None f)) i l)))
+  shown_answers ok (Some r) f = refused_answers r f
 
   pub answers : Usable g → Answers g room (reply g room) (report g room)
   answers ok = shown_answers ok (found g room) (finds g room ok)

@@ -1,4 +1,4 @@
--- What demand 3 promises is sharp: the figures are the least that hold, a queue comes to its size and to nothing, and graphs need to agree
+-- What is promised is sharp: the figures are the least that hold, a queue comes to its size and to nothing, and graphs need to agree
 -- no further than up to the number that is named. Assumes nothing.
 use mathlib.Core.Path.{◌≡◌, refl, ap, subst}
 use mathlib.Core.List.{List, [], ◌∷◌}
@@ -6,6 +6,7 @@ use Prim.Native.Nat.{ℕ, zero, suc, ◌+◌, ◌*◌, ◌≤◌, ◌<◌}
 use native.Mathlib.Nat.{le_refl}
 use native.Mathlib.Omega.{arith}
 use lib.ListN.{get_or}
+use Rattle.std.specs.Prelude.{Ok}
 use Rattle.numbers.specs.Numbers.{sum, ceil, from}
 use Rattle.numbers.proofs.Sums.{sum_suc, sum_zero}
 use Rattle.machine.specs.Machine.{Mine, Slot, idle, job, tick, ran, May, demand}
@@ -17,8 +18,7 @@ use Rattle.graph.specs.declared.Task.{Task}
 use Rattle.graph.specs.Rates.{rate_of, list_of, place_in}
 use Rattle.graph.specs.Model.{Rates, Graph, count, task, link}
 use Rattle.rules.specs.Terms.{cost, machine, side, Timed, Joined, Usable, response}
-use Rattle.reply.specs.declared.Reply.{Reply}
-use Rattle.reply.specs.declared.Reply.TheVariants.{Accepted}
+use Rattle.reply.specs.Reply.{Reply}
 use Rattle.rules.specs.Rules.{Answers, load}
 use Rattle.rules.specs.Check.{holds, seen, first, found, listed, reply, report}
 use Rattle.rules.specs.Execution.{Moves, Execution, Within, Kept}
@@ -31,7 +31,7 @@ use Rattle.rules.proofs.Report.{answers}
 
 -- Where all tasks are released together and each job runs its worst, no figures are kept that are smaller than those reported.
 pub least_figures :
-    (g : Graph) → Usable g → (room n : ℕ) (l : List ℕ) → Answers g room (Accepted n) l → ((i : ℕ) → i < count g → (task g i).offset ≡ 0)
+    (g : Graph) → Usable g → (room n : ℕ) (l : List ℕ) → Answers g room (Ok n) l → ((i : ℕ) → i < count g → (task g i).offset ≡ 0)
     → (e : Execution g) → ((i k : ℕ) → i < count g → e.needs i k ≡ cost g i)
     → (l' : List ℕ) → Kept g l' e → (i : ℕ) → i < count g → get_or l i 0 ≤ get_or l' i 0
 least_figures g ok room n l a together e worst l' k i h =
@@ -57,7 +57,7 @@ later_job e n k =
 
 -- ---- queues
 
--- one task with a channel to itself, of document 01's samples: it puts one token and takes one in each job, which is one tick
+-- one task with a channel to itself: it puts one token and takes one in each job, which is one tick
 abbrev pub looped : ℕ → ℕ → Graph
 looped initial size =
     record {
@@ -127,11 +127,11 @@ usable_loop initial size = record { timed = timed; ends = ends }
     ends (suc c) h = absurd (omega arith)
 
 -- with one token and room for two it is accepted, with the figure 1
-computed : ◌≡◌ {A = Reply × List ℕ} (reply (looped 1 2) 1, report (looped 1 2) 1) (Accepted 1, 1 ∷ [])
+computed : ◌≡◌ {A = Reply × List ℕ} (reply (looped 1 2) 1, report (looped 1 2) 1) (Ok 1, 1 ∷ [])
 unfolding task link found first listed response holds seen load demand sum ceil from judge lcm ended rate_of list_of place_in
 computed = refl
 
-accepted_loop : Answers (looped 1 2) 1 (Accepted 1) (1 ∷ [])
+accepted_loop : Answers (looped 1 2) 1 (Ok 1) (1 ∷ [])
 accepted_loop = subst (λ (o : Reply × List ℕ). Answers (looped 1 2) 1 o.0 o.1) computed (answers (looped 1 2) 1 (usable_loop 1 2))
 
 -- it has an execution

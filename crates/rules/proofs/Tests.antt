@@ -1,72 +1,51 @@
 -- The computed reply is the one that is given, and the figures are the response times. Assumes nothing.
 use mathlib.Core.Path.{◌≡◌, refl, sym, ap, ◌∙◌, subst}
-use mathlib.Core.Bool.{Bool, true, false, not, ◌&&◌}
+use mathlib.Core.Bool.{Bool, true, not, false≢true}
 use mathlib.Core.List.{[], ◌∷◌}
-use mathlib.Core.Option.{Option, none}
-use mathlib.Core.Logic.{inl, inr, ◌↔◌}
+use mathlib.Core.Logic.{inl, inr}
 use Prim.Native.Nat.{ℕ, suc, ◌-◌, ◌≤◌, ◌<◌}
 use native.Mathlib.Nat.{le_antisymm}
 use native.Mathlib.Omega.{arith}
 use borrow.Author.Tests.{ltb-true, leb-true, leb-false, eqb-true, lt-ltb, eq-eqb}
 use lib.Dec.{ltb, leb, eqb}
-use lib.IntN.{ℤ, pos, negsuc}
 use lib.ListN.{length}
+use Rattle.std.specs.Prelude.{Option, None, Ok, Err}
+use Rattle.std.specs.Bool.{Decides}
+use Rattle.std.specs.Option.{option_or}
+use Rattle.std.proofs.lemmas.Bool.Decides.{Decides-eqb, Decides-int_eq, Decides-and, Decides-not}
 use Rattle.machine.specs.Machine.{Tasks, demand, IsResponse}
 use Rattle.channel.specs.Side.{Sound}
 use Rattle.channel.specs.Channel.{Channel, Balanced, Underflows, Overflows}
-use Rattle.channel.specs.declared.Verdict.TheVariants as channels
+use Rattle.channel.specs.declared.Fault.TheVariants as fault
 use Rattle.numbers.specs.Numbers.{least}
-use Rattle.channel.specs.declared.Verdict.{Verdict}
-use Rattle.channel.specs.Judge.{TooLong, Means, judge}
+use Rattle.channel.specs.Judge.{TooLong, Verdict, Means, judge}
 use Rattle.numbers.proofs.Sums.{cases}
 use Rattle.numbers.proofs.Least.{least_is}
 use Rattle.channel.proofs.Judged.{judge_means}
 use Rattle.graph.specs.declared.Relation.{Relation}
 use Rattle.graph.specs.Model.{Rates, Graph, count, task, link, relation}
 use Rattle.rules.specs.Terms.{machine, side, channel, Usable, response}
-use Rattle.reply.specs.declared.Reply.{Reply}
-use Rattle.reply.specs.declared.Reply.TheVariants.{Accepted, SamePriority, ShortReport, FalseRelation, Late, Overloaded, InitialAboveSize, Unbalanced, WindowTooLong, Underflow, Overflow, UnknownKind, CutShort, OutOfOrder, OutOfRange, TooMany, NoTask, EmptyCycle, NoFile, ShortOutput}
+use Rattle.reply.specs.declared.Refusal.{Refusal}
+use Rattle.reply.specs.declared.Refusal.TheVariants.{SamePriority, ShortReport, FalseRelation, Late, Overloaded, InitialAboveSize, Unbalanced, WindowTooLong, Underflow, Overflow, UnknownKind, CutShort, OutOfOrder, OutOfRange, TooMany, NoTask, EmptyCycle, NoFile, ShortOutput}
 use Rattle.reply.specs.Reply.{number, place, job}
 use Rattle.rules.specs.Order.{Sooner, Earlier}
 use Rattle.rules.specs.Rules.{Holds, load, Refuses, Replies}
-use Rattle.rules.specs.Check.{eqbℤ, holds, seen, refusal, when, or, same_priorities, short_reports, false_relations, late_tasks, overload, spoilt_channels, found, reply}
+use Rattle.rules.specs.Check.{holds, seen, refusal, when, same_priorities, short_reports, false_relations, late_tasks, overload, spoilt_channels, found, reply}
 use Rattle.rules.proofs.Order.{irreflexive}
 use Rattle.rules.specs.Stages.{At, Upto, In, Earliest}
 use Rattle.rules.proofs.Find.{kind, known, when_finds, stage_finds, tests_find, next_finds, nothing, given_replies}
 
 -- ---- tests and what they mean
 
--- a test and what it finds
-abbrev Tests : Bool → Type 0 → Type 0
-Tests b P = (b ≡ true) ↔ P
-
-false_true : {A : Type 0} → false ≡ true → A
-false_true e = let z : ◌≡◌ {A = ℕ} 0 1 = cc in absurd (omega arith)
-
-not_tests : (b : Bool) (P : Type 0) → Tests b P → Tests (not b) (¬ P)
-not_tests true P t = (λ e. false_true e, λ n. absurd (n (t.0 refl)))
-not_tests false P t = (λ e p. false_true (t.1 p), λ n. refl)
-
-and_tests : (a b : Bool) (P Q : Type 0) → Tests a P → Tests b Q → Tests (a && b) (P × Q)
-and_tests true true P Q s t = (λ e. (s.0 refl, t.0 refl), λ p. refl)
-and_tests true false P Q s t = (λ e. false_true e, λ p. t.1 p.1)
-and_tests false b P Q s t = (λ e. false_true e, λ p. s.1 p.0)
-
-eqbℤ_tests : (x y : ℤ) → Tests (eqbℤ x y) (x ≡ y)
-eqbℤ_tests (pos m) (pos n) = (λ e. ap pos (eqb-true m n e), λ e. eq-eqb m n (cc))
-eqbℤ_tests (pos m) (negsuc n) = (λ e. false_true e, λ e. cc)
-eqbℤ_tests (negsuc m) (pos n) = (λ e. false_true e, λ e. cc)
-eqbℤ_tests (negsuc m) (negsuc n) = (λ e. ap negsuc (eqb-true m n e), λ e. eq-eqb m n (cc))
-
-least_tests : (p : ℕ → Bool) (n : ℕ) → Tests (ltb (least p n) n) ((j : ℕ) × (j < n) × (p j ≡ true))
+least_tests : (p : ℕ → Bool) (n : ℕ) → Decides (ltb (least p n) n) ((j : ℕ) × (j < n) × (p j ≡ true))
 least_tests p n =
     let i = least_is p n in (
       λ e. let l = ltb-true (least p n) n e in (least p n, l, i.passes l),
-      λ (j, l, e). lt-ltb (least p n) n (cases n (least p n) (λ h. let f = i.none_before j (omega arith) in let z : ◌≡◌ {A = ℕ} 0 1 = cc in absurd (omega arith)) (λ h. h)),
+      λ (j, l, e). lt-ltb (least p n) n (cases n (least p n) (λ h. absurd (false≢true (sym (i.none_before j (omega arith)) ∙ e))) (λ h. h)),
     )
 
 module _ (g : Graph) where
-  seen_tests : (i : ℕ) → Tests (seen g i) ((j : ℕ) × (j < i) × ((task g j).priority ≡ (task g i).priority))
+  seen_tests : (i : ℕ) → Decides (seen g i) ((j : ℕ) × (j < i) × ((task g j).priority ≡ (task g i).priority))
   unfolding seen
   seen_tests i =
       let t = least_tests (λ j. eqb (task g j).priority (task g i).priority) i in (
@@ -74,10 +53,10 @@ module _ (g : Graph) where
         λ (j, l, q). t.1 (j, l, eq-eqb (task g j).priority (task g i).priority q),
       )
 
-  holds_tests : (r : Relation) → Tests (holds g r) (Holds g r)
+  holds_tests : (r : Relation) → Decides (holds g r) (Holds g r)
   unfolding holds
   holds_tests r =
-      let t = and_tests _ _ _ _ ((λ e. eqb-true _ _ e), (λ e. eq-eqb _ _ e)) (eqbℤ_tests _ _) in
+      let t = Decides-and _ _ (Decides-eqb _ _) (Decides-int_eq _ _) in
       (λ e. let h = t.0 e in record { periods = h.0; phases = h.1 }, λ h. t.1 (h.periods, h.phases))
 
   -- ---- the figures
@@ -99,7 +78,7 @@ module _ (g : Graph) where
   unfolding response
   positive i = omega arith
 
-  pub late_tests : (i : ℕ) → Tests (ltb (task g i).deadline (response g i)) ((w : ℕ) → 1 ≤ w → w ≤ (task g i).deadline → w < demand (machine g) i w)
+  pub late_tests : (i : ℕ) → Decides (ltb (task g i).deadline (response g i)) ((w : ℕ) → 1 ≤ w → w ≤ (task g i).deadline → w < demand (machine g) i w)
   late_tests i = (
     λ e w h l. too_little i w h (omega (arith, ltb-true (task g i).deadline (response g i) e)),
     λ f.
@@ -142,15 +121,15 @@ before a k j (inr (x, inr (y, z))) = absurd z
 
 -- number and job of a verdict
 abbrev stands : Verdict → ℕ × ℕ
-stands channels.Fine = (18, 0)
-stands channels.InitialAboveSize = (13, 0)
-stands channels.Unbalanced = (14, 0)
-stands channels.WindowTooLong = (15, 0)
-stands (channels.Underflow k) = (16, k)
-stands (channels.Overflow j) = (17, j)
+stands (Ok tt) = (18, 0)
+stands (Err fault.InitialAboveSize) = (13, 0)
+stands (Err fault.Unbalanced) = (14, 0)
+stands (Err fault.WindowTooLong) = (15, 0)
+stands (Err (fault.Underflow k)) = (16, k)
+stands (Err (fault.Overflow j)) = (17, j)
 
 clear : (ch : Channel) (v : Verdict) → Means ch v → Clear ch (stands v).0 (stands v).1
-clear ch channels.Fine m =
+clear ch (Ok tt) m =
     record {
       fits = λ x. m.0;
       balance = λ x. m.1;
@@ -158,7 +137,7 @@ clear ch channels.Fine m =
       no_under = λ k x. m.3 k;
       no_over = λ k x. m.4 k;
     }
-clear ch channels.InitialAboveSize m =
+clear ch (Err fault.InitialAboveSize) m =
     record {
       fits = λ x. absurd (irreflexive (13 ∷ 0 ∷ []) x);
       balance = never 14 13 0 0 (omega arith);
@@ -166,7 +145,7 @@ clear ch channels.InitialAboveSize m =
       no_under = λ k. never 16 13 k 0 (omega arith);
       no_over = λ k. never 17 13 k 0 (omega arith);
     }
-clear ch channels.Unbalanced m =
+clear ch (Err fault.Unbalanced) m =
     record {
       fits = λ x. m.0;
       balance = λ x. absurd (irreflexive (14 ∷ 0 ∷ []) x);
@@ -174,7 +153,7 @@ clear ch channels.Unbalanced m =
       no_under = λ k. never 16 14 k 0 (omega arith);
       no_over = λ k. never 17 14 k 0 (omega arith);
     }
-clear ch channels.WindowTooLong m =
+clear ch (Err fault.WindowTooLong) m =
     record {
       fits = λ x. m.0;
       balance = λ x. m.1;
@@ -182,7 +161,7 @@ clear ch channels.WindowTooLong m =
       no_under = λ k. never 16 15 k 0 (omega arith);
       no_over = λ k. never 17 15 k 0 (omega arith);
     }
-clear ch (channels.Underflow i) m =
+clear ch (Err (fault.Underflow i)) m =
     record {
       fits = λ x. m.0;
       balance = λ x. m.1;
@@ -190,7 +169,7 @@ clear ch (channels.Underflow i) m =
       no_under = λ k x. m.3.1 k (before 16 k i x);
       no_over = λ k. never 17 16 k i (omega arith);
     }
-clear ch (channels.Overflow i) m =
+clear ch (Err (fault.Overflow i)) m =
     record {
       fits = λ x. m.0;
       balance = λ x. m.1;
@@ -200,8 +179,7 @@ clear ch (channels.Overflow i) m =
     }
 
 module _ (g : Graph) (room : ℕ) where
-  clear_refuses : (n j : ℕ) (s : Reply) → In 13 s → Refuses g room s → Clear (channel g (place s)) n j → ¬ Sooner (number s ∷ job s ∷ []) (n ∷ j ∷ [])
-  clear_refuses n j (Accepted m) e h k x = h
+  clear_refuses : (n j : ℕ) (s : Refusal) → In 13 s → Refuses g room s → Clear (channel g (place (Err s))) n j → ¬ Sooner (number (Err s) ∷ job (Err s) ∷ []) (n ∷ j ∷ [])
   clear_refuses n j (SamePriority i) e h k x = omega arith
   clear_refuses n j (ShortReport m) e h k x = omega arith
   clear_refuses n j (FalseRelation r) e h k x = omega arith
@@ -223,20 +201,20 @@ module _ (g : Graph) (room : ℕ) where
   clear_refuses n j (ShortOutput y) e h k x = h
 
   -- so no reply on the channel is earlier than one of that number and job
-  clear_first : (c : ℕ) (r : Reply) → place r ≡ c → In 13 r → Clear (channel g c) (number r) (job r) → (s : Reply) → At 13 c s → Refuses g room s → ¬ Earlier s r
+  clear_first : (c : ℕ) (r : Refusal) → place (Err r) ≡ c → In 13 r → Clear (channel g c) (number (Err r)) (job (Err r)) → (s : Refusal) → At 13 c s → Refuses g room s → ¬ Earlier s r
   clear_first c r p q k s d h (inl x) = omega (arith, d.0, q)
   clear_first c r p q k s d h (inr (x, inl y)) = omega (arith, d.1, p)
-  clear_first c r p q k s d h (inr (x, inr (y, z))) = clear_refuses (number r) (job r) s d.0 h (subst (λ i. Clear (channel g i) (number r) (job r)) (sym d.1) k) z
+  clear_first c r p q k s d h (inr (x, inr (y, z))) = clear_refuses (number (Err r)) (job (Err r)) s d.0 h (subst (λ i. Clear (channel g i) (number (Err r)) (job (Err r))) (sym d.1) k) z
 
   verdict_finds : (c : ℕ) → c < length g.channels → (v : Verdict) → Means (channel g c) v → Clear (channel g c) (stands v).0 (stands v).1
       → Earliest g room (At 13 c) (refusal c v)
-  verdict_finds c l channels.Fine m k = λ s d h.
+  verdict_finds c l (Ok tt) m k = λ s d h.
       clear_refuses 18 0 s d.0 h (subst (λ i. Clear (channel g i) 18 0) (sym d.1) k) (inl (omega (arith, known g room s h)))
-  verdict_finds c l channels.InitialAboveSize m k = ((refl, refl), (l, m), clear_first c (InitialAboveSize c) refl refl k)
-  verdict_finds c l channels.Unbalanced m k = ((refl, refl), (l, m.1), clear_first c (Unbalanced c) refl refl k)
-  verdict_finds c l channels.WindowTooLong m k = ((refl, refl), (l, m.2), clear_first c (WindowTooLong c) refl refl k)
-  verdict_finds c l (channels.Underflow i) m k = ((refl, refl), (l, m.3.0), clear_first c (Underflow c i) refl refl k)
-  verdict_finds c l (channels.Overflow i) m k = ((refl, refl), (l, m.4.0), clear_first c (Overflow c i) refl refl k)
+  verdict_finds c l (Err fault.InitialAboveSize) m k = ((refl, refl), (l, m), clear_first c (InitialAboveSize c) refl refl k)
+  verdict_finds c l (Err fault.Unbalanced) m k = ((refl, refl), (l, m.1), clear_first c (Unbalanced c) refl refl k)
+  verdict_finds c l (Err fault.WindowTooLong) m k = ((refl, refl), (l, m.2), clear_first c (WindowTooLong c) refl refl k)
+  verdict_finds c l (Err (fault.Underflow i)) m k = ((refl, refl), (l, m.3.0), clear_first c (Underflow c i) refl refl k)
+  verdict_finds c l (Err (fault.Overflow i)) m k = ((refl, refl), (l, m.4.0), clear_first c (Overflow c i) refl refl k)
 
   -- ---- the stages of one test, and of one channel
 
@@ -245,7 +223,7 @@ module _ (g : Graph) (room : ℕ) where
   room_finds =
       when_finds g room (In 9) (ltb room (count g)) (ShortReport (count g)) refl (λ e. (refl, ltb-true room (count g) e))
       (λ s e h.
-      let q : s ≡ ShortReport (place s) = kind 9 s (omega arith) e in
+      let q : s ≡ ShortReport (place (Err s)) = kind 9 s (omega arith) e in
       let (a, b) = subst (Refuses g room) q h in
       (q ∙ ap ShortReport a, lt-ltb room (count g) b))
 
@@ -274,22 +252,22 @@ module _ (g : Graph) (room : ℕ) where
     pub finds : Earliest g room (Upto 14) (found g room)
     unfolding found
     finds =
-        let a : Option Reply = same_priorities g in
-        let b : Option Reply = or a (short_reports g room) in
-        let c : Option Reply = or b (false_relations g) in
-        let d : Option Reply = or c (late_tasks g) in
-        let e : Option Reply = or d (overload g) in
+        let a : Option Refusal = same_priorities g in
+        let b : Option Refusal = option_or a (short_reports g room) in
+        let c : Option Refusal = option_or b (false_relations g) in
+        let d : Option Refusal = option_or c (late_tasks g) in
+        let e : Option Refusal = option_or d (overload g) in
         next_finds g room 13 e (spoilt_channels g)
         (next_finds g room 12 d (overload g)
         (next_finds g room 11 c (late_tasks g)
         (next_finds g room 10 b (false_relations g)
         (next_finds g room 9 a (short_reports g room)
-        (next_finds g room 8 none a (nothing g room)
+        (next_finds g room 8 None a (nothing g room)
         (tests_find g room 8 (count g) (seen g) SamePriority (λ i. (refl, refl)) (λ s e h. kind 8 s (omega arith) e) (λ i h. h.0)
         (λ i l. let t = seen_tests g i in (λ e. (l, t.0 e), λ h. t.1 h.1))))
         room_finds)
         (tests_find g room 10 (length g.relations) (λ r. not (holds g (relation g r))) FalseRelation (λ i. (refl, refl)) (λ s e h. kind 10 s (omega arith) e) (λ i h. h.0)
-        (λ r l. let t = not_tests (holds g (relation g r)) (Holds g (relation g r)) (holds_tests g (relation g r)) in (λ e. (l, t.0 e), λ h. t.1 h.1))))
+        (λ r l. let t = Decides-not (holds g (relation g r)) (holds_tests g (relation g r)) in (λ e. (l, t.0 e), λ h. t.1 h.1))))
         (tests_find g room 11 (count g) (λ i. ltb (task g i).deadline (response g i)) Late (λ i. (refl, refl)) (λ s e h. kind 11 s (omega arith) e) (λ i h. h.0)
         (λ i l. let t = late_tests g i in (λ e. (l, t.0 e), λ h. t.1 h.1))))
         load_finds)

@@ -1,6 +1,6 @@
 -- What is answered to a file: the reader's refusal, or the answer to the graph that the file reads as. Assumes nothing.
 use Rattle.std.specs.Prelude.{◌≡◌, List, [], ℕ}
-use Rattle.reply.specs.declared.Reply.{Reply}
+use Rattle.reply.specs.Reply.{Reply}
 use Rattle.format.specs.Reader as files
 use Rattle.rules.specs.Rules.{Answers}
 use Rattle.rules.specs.Check as check

@@ -1,15 +1,15 @@
 -- The order of the tests. Assumes nothing.
-use Rattle.std.specs.Prelude.{◌≡◌, List, [], ◌∷◌, ◌⊎◌, ℕ, min, ◌<◌}
-use Rattle.reply.specs.declared.Reply.{Reply}
+use Rattle.std.specs.Prelude.{◌≡◌, List, [], ◌∷◌, ◌⊎◌, Err, ℕ, min, ◌<◌}
+use Rattle.reply.specs.declared.Refusal.{Refusal}
 use Rattle.reply.specs.Reply.{number, place, job}
 
--- a reply's stage: 8 to 12 are tested one after the other, then 13 to 17 together, channel by channel
-abbrev pub stage : Reply → ℕ
-stage r = min (number r) 13
+-- a refusal's stage: 8 to 12 are tested one after the other, then 13 to 17 together, channel by channel
+abbrev pub stage : Refusal → ℕ
+stage r = min (number (Err r)) 13
 
 -- what the order compares: stage, place, number, job
-abbrev pub key : Reply → List ℕ
-key r = stage r ∷ place r ∷ number r ∷ job r ∷ []
+abbrev pub key : Refusal → List ℕ
+key r = stage r ∷ place (Err r) ∷ number (Err r) ∷ job (Err r) ∷ []
 
 -- the first numbers that differ decide
 abbrev pub Sooner : List ℕ → List ℕ → Type 0
@@ -17,6 +17,6 @@ Sooner [] ys = ⊥
 Sooner (x ∷ xs) [] = ⊥
 Sooner (x ∷ xs) (y ∷ ys) = (x < y) ⊎ ((x ≡ y) × Sooner xs ys)
 
--- the reply r comes before s
-abbrev pub Earlier : Reply → Reply → Type 0
+-- the refusal r comes before s
+abbrev pub Earlier : Refusal → Refusal → Type 0
 Earlier r s = Sooner (key r) (key s)

@@ -1,5 +1,5 @@
 -- What each reply says of a graph and of the room in the report, and which reply is given. Assumes nothing.
-use Rattle.std.specs.Prelude.{◌≡◌, cond, List, ℕ, ◌*◌, ◌/◌, ◌≤◌, ◌<◌, eqb, pos, ◌-ℤ◌, ◌*ℤ◌, length, get_or}
+use Rattle.std.specs.Prelude.{◌≡◌, cond, Ok, Err, List, ℕ, ◌*◌, ◌/◌, ◌≤◌, ◌<◌, eqb, pos, ◌-ℤ◌, ◌*ℤ◌, length, get_or}
 use Rattle.numbers.specs.Numbers.{sum}
 use Rattle.machine.specs.Machine.{demand, IsResponse}
 use Rattle.channel.specs.Channel.{Balanced, Underflows, Overflows}
@@ -7,12 +7,12 @@ use Rattle.channel.specs.Judge.{TooLong}
 use Rattle.graph.specs.declared.Relation.{Relation}
 use Rattle.graph.specs.Model.{Graph, count, task, link, relation}
 use Rattle.rules.specs.Terms.{cost, machine, channel}
-use Rattle.reply.specs.declared.Reply.{Reply}
-use Rattle.reply.specs.declared.Reply.TheVariants.{Accepted, SamePriority, ShortReport, FalseRelation, Late, Overloaded, InitialAboveSize, Unbalanced, WindowTooLong, Underflow, Overflow, UnknownKind, CutShort, OutOfOrder, OutOfRange, TooMany, NoTask, EmptyCycle, NoFile, ShortOutput}
-use Rattle.reply.specs.Reply.{number}
+use Rattle.reply.specs.declared.Refusal.{Refusal}
+use Rattle.reply.specs.declared.Refusal.TheVariants.{SamePriority, ShortReport, FalseRelation, Late, Overloaded, InitialAboveSize, Unbalanced, WindowTooLong, Underflow, Overflow, UnknownKind, CutShort, OutOfOrder, OutOfRange, TooMany, NoTask, EmptyCycle, NoFile, ShortOutput}
+use Rattle.reply.specs.Reply.{Reply, number}
 use Rattle.rules.specs.Order.{Earlier}
 
--- The relation is true: d × T_p = n × T_q, and n × (O_q − O_p) = φ × T_p, equations 7 and 8 of source 004.
+-- The relation is true: d × T_p = n × T_q, and n × (O_q − O_p) = φ × T_p.
 pub record Holds (g : Graph) (r : Relation) : Type 0 where
   pub periods : r.d * (task g r.p).period ≡ r.n * (task g r.q).period
   pub phases : pos r.n *ℤ (pos (task g r.q).offset -ℤ pos (task g r.p).offset) ≡ r.phi *ℤ pos (task g r.p).period
@@ -33,9 +33,8 @@ Fails g r = ¬ Holds g (relation g r)
 abbrev pub Misses : Graph → ℕ → Type 0
 Misses g i = (w : ℕ) → 1 ≤ w → w ≤ (task g i).deadline → w < demand (machine g) i w
 
--- The reply is true of the graph as a refusal. Each is stated by itself, whatever the other tests find.
-abbrev pub Refuses : Graph → ℕ → Reply → Type 0
-Refuses g room (Accepted n) = ⊥
+-- The refusal is true of the graph. Each is stated by itself, whatever the other tests find.
+abbrev pub Refuses : Graph → ℕ → Refusal → Type 0
 Refuses g room (SamePriority i) = (i < count g) × Repeats g i
 Refuses g room (ShortReport n) = (n ≡ count g) × (room < count g)
 Refuses g room (FalseRelation r) = (r < length g.relations) × Fails g r
@@ -46,7 +45,7 @@ Refuses g room (Unbalanced c) = (c < length g.channels) × ¬ Balanced (channel 
 Refuses g room (WindowTooLong c) = (c < length g.channels) × TooLong (channel g c)
 Refuses g room (Underflow c k) = (c < length g.channels) × Underflows (channel g c) k
 Refuses g room (Overflow c j) = (c < length g.channels) × Overflows (channel g c) j
--- the replies to files and outputs, which refuse no graph
+-- what refuses files and outputs, and no graph
 Refuses g room (UnknownKind x) = ⊥
 Refuses g room (CutShort x) = ⊥
 Refuses g room (OutOfOrder x) = ⊥
@@ -66,8 +65,8 @@ pub record Passing (g : Graph) (room c : ℕ) : Type 0 where
 
 -- The reply that is given: accepted where nothing refuses, and otherwise the earliest refusal.
 pub data Replies (g : Graph) (room : ℕ) : Reply → Type 0 where
-  passes : ((s : Reply) → ¬ Refuses g room s) → Replies g room (Accepted (count g))
-  fails : (r : Reply) → Refuses g room r → ((s : Reply) → Refuses g room s → ¬ Earlier s r) → Replies g room r
+  passes : ((s : Refusal) → ¬ Refuses g room s) → Replies g room (Ok (count g))
+  fails : (r : Refusal) → Refuses g room r → ((s : Refusal) → Refuses g room s → ¬ Earlier s r) → Replies g room (Err r)
 
 -- What is written to the report: R of every task in turn where the reply is 0, and otherwise nothing.
 pub record Reports (g : Graph) (r : Reply) (l : List ℕ) : Type 0 where

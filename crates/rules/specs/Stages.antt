@@ -1,33 +1,32 @@
--- The stages of the tests, and the earliest refusal among some replies. Assumes nothing.
-use Rattle.std.specs.Prelude.{◌≡◌, ℕ, ◌<◌}
-use Rattle.std.proofs.Math.Option.{Option, none, some}
-use Rattle.reply.specs.declared.Reply.{Reply}
+-- The stages of the tests, and the earliest among some refusals. Assumes nothing.
+use Rattle.std.specs.Prelude.{◌≡◌, Option, Some, None, Err, ℕ, ◌<◌}
+use Rattle.reply.specs.declared.Refusal.{Refusal}
 use Rattle.reply.specs.Reply.{place}
 use Rattle.graph.specs.Model.{Graph}
 use Rattle.rules.specs.Order.{stage, Earlier}
 use Rattle.rules.specs.Rules.{Refuses}
 
--- ---- sets of replies
+-- ---- sets of refusals
 
 -- of stage n at place i
-abbrev pub At : ℕ → ℕ → Reply → Type 0
-At n i s = (stage s ≡ n) × (place s ≡ i)
+abbrev pub At : ℕ → ℕ → Refusal → Type 0
+At n i s = (stage s ≡ n) × (place (Err s) ≡ i)
 
 -- of stage n at a place below m
-abbrev pub Below : ℕ → ℕ → Reply → Type 0
-Below n m s = (stage s ≡ n) × (place s < m)
+abbrev pub Below : ℕ → ℕ → Refusal → Type 0
+Below n m s = (stage s ≡ n) × (place (Err s) < m)
 
 -- of a stage below n
-abbrev pub Upto : ℕ → Reply → Type 0
+abbrev pub Upto : ℕ → Refusal → Type 0
 Upto n s = stage s < n
 
 -- of stage n
-abbrev pub In : ℕ → Reply → Type 0
+abbrev pub In : ℕ → Refusal → Type 0
 In n s = stage s ≡ n
 
 -- ---- the earliest
 
--- of the replies in D none refuses, or r is the earliest that does
-abbrev pub Earliest : Graph → ℕ → (Reply → Type 0) → Option Reply → Type 0
-Earliest g room D none = (s : Reply) → D s → ¬ Refuses g room s
-Earliest g room D (some r) = D r × Refuses g room r × ((s : Reply) → D s → Refuses g room s → ¬ Earlier s r)
+-- of the refusals in D none is true, or r is the earliest that does
+abbrev pub Earliest : Graph → ℕ → (Refusal → Type 0) → Option Refusal → Type 0
+Earliest g room D None = (s : Refusal) → D s → ¬ Refuses g room s
+Earliest g room D (Some r) = D r × Refuses g room r × ((s : Refusal) → D s → Refuses g room s → ¬ Earlier s r)

@@ -7,6 +7,7 @@ use Prim.Native.Nat.{ℕ, ◌<◌}
 use native.Mathlib.Omega.{arith}
 use borrow.Author.Tests.{ltb-true}
 use lib.Dec.{ltb}
+use Rattle.std.specs.Prelude.{Ok}
 use Rattle.numbers.specs.Numbers.{sum, from}
 use Rattle.numbers.specs.Lists.{all}
 use Rattle.numbers.proofs.Lists.{all_yes}
@@ -16,7 +17,6 @@ use Rattle.format.specs.Growth.{change}
 use Rattle.format.specs.Record.{number, split, kind_of, rank}
 use Rattle.format.specs.Reader as files
 use Rattle.format.proofs.Reading.{read_answers}
-use Rattle.channel.specs.declared.Verdict.TheVariants.{Fine}
 use Rattle.channel.specs.Side.{Side, ended}
 use Rattle.channel.specs.Channel.{Balanced}
 use Rattle.channel.specs.Judge.{Means, lcm, judge}
@@ -48,7 +48,7 @@ unfolding task link sum
 twelve_against_sixteen = refl
 
 -- channel 0 of A passes all tests
-fine : Means (channel (graph_a 3) 0) Fine
+fine : Means (channel (graph_a 3) 0) (Ok tt)
 unfolding task link sum from judge lcm ended rate_of list_of place_in
 fine =
     judge_means (channel (graph_a 3) 0)

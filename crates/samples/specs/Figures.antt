@@ -1,4 +1,4 @@
--- Two figures that document 01 tells of graph A: the sides of its balance, and the largest fill of rule Overflow. Assumes nothing.
+-- Two figures of graph A: the sides of its balance, and the largest fill of rule Overflow. Assumes nothing.
 use Rattle.std.specs.Prelude.{[], ◌∷◌, ℕ, ◌*◌, ◌<◌, pos, length}
 use Rattle.graph.specs.Model.{Graph}
 use Rattle.channel.specs.Side.{Side, turn}

@@ -1,8 +1,7 @@
 -- Files, the room in the report, and the answer to each: number, place, job, and the figures of an accepted one. Assumes nothing.
 use Rattle.std.specs.Prelude.{◌≡◌, List, [], ◌∷◌, ◌++◌, ℕ, zero, suc, take}
 use Rattle.reply.specs.declared.Numbers.{Numbers}
-use Rattle.reply.specs.declared.Reply.{Reply}
-use Rattle.reply.specs.Reply.{numbered, three}
+use Rattle.reply.specs.Reply.{Reply, numbered, three}
 use Rattle.rules.specs.Files.{FileAnswers}
 
 -- a file, the room in the report, and the answer
@@ -40,7 +39,7 @@ related p q n phase d = 0x04 ∷ p ∷ q ∷ 0 ∷ 0 ∷ 0 ∷ n ∷ (phase ++ (
 abbrev relation : ℕ → List ℕ
 relation phase = related 0 1 2 (0 ∷ 0 ∷ 0 ∷ phase ∷ []) 3
 
--- ---- graph A, whole, as document 01 has it
+-- ---- graph A, whole
 
 -- graph A
 abbrev pub A : List ℕ
@@ -79,7 +78,7 @@ refused file number place job = record { file = file; room = 32; numbers = three
 abbrev accepted : List ℕ → ℕ → List ℕ → Sample
 accepted file count figures = record { file = file; room = 32; numbers = three 0 count 0; figures = figures }
 
--- document 01's starred samples, in its order
+-- the samples of graph A and of a few small graphs, by what they show
 unfoldable pub starred : List Sample
 starred =
     refused [] 6 0 0

@@ -1,7 +1,7 @@
 // Tests 8 and 12: a priority seen before, and the load.
 #![tactic(auto)]
 
-ghost use Rattle.std.specs.Prelude.{◌≡◌, true, false, ◌≤◌, ◌<◌, ltb, take};
+ghost use Rattle.std.specs.Prelude.{◌≡◌, ◌≤◌, ◌<◌, ◌^◌, ◌↔◌, IsTrue, Any, sum_by, length, ltb, All as Each};
 ghost use Rattle.graph.specs.Model.{max_tasks};
 ghost use Rattle.reply.specs.Found.{Finds};
 ghost use Rattle.numbers.specs.Lists.{All};
@@ -9,70 +9,96 @@ ghost use Rattle.format.specs.Ranges.{TaskRange};
 ghost use Rattle.rules.specs.Given.{Of};
 ghost use Rattle.rules.specs.Rules.{Repeats, load};
 ghost use Rattle.rules.specs.Terms.{cost_of};
-ghost use Rattle.tasks.specs.Tasks.{Before, share};
+ghost use Rattle.tasks.specs.Tasks.{share};
 
-use graph::{Graph, Task};
-use reply::Found;
+use graph::Task;
+use std::marker::Model;
 
-// An earlier task has the priority of task i.
-fn seen(tasks: [Task; Graph::TASKS], i: usize) -> bool
-    requires { i < 32 }
-    ensures before { result ≡ true → Before tasks i }
-    ensures not_before { result ≡ false → ¬ Before tasks i }
-{
-    let mine = tasks[i];
-    let mut j: usize = 0;
-    while j < i {
-        let other = tasks[j];
-        if other.priority == mine.priority {
-            return true;
-        }
-        j += 1;
+// The tasks of a graph that a file can hold: not too many, each in range.
+#[derive(Drop)]
+pub struct Tasks<'a> {
+    list: &'a [Task],
+}
+
+impl<'a> Model for Tasks<'a> {
+    ghost use Rattle.std.specs.Prelude.{List, ◌≤◌, length};
+    ghost use Rattle.graph.specs.declared.Task.{Task};
+    ghost use Rattle.graph.specs.Model.{max_tasks};
+    ghost use Rattle.numbers.specs.Lists.{All};
+    ghost use Rattle.format.specs.Ranges.{TaskRange};
+
+    ghost Value = { List Task };
+
+    ghost view = { λ t. t.list.now };
+
+    ghost invariant = { λ t. (length t.list.now ≤ max_tasks) × All TaskRange t.list.now };
+}
+
+impl<'a> Tasks<'a> {
+    pub fn new(list: &'a [Task]) -> Self
+        requires few { length list.now ≤ max_tasks }
+        requires in_range { All TaskRange list.now }
+        ensures { result ≡ list.now }
+    {
+        Self { list }
     }
-    false
+
+    pub fn list(&self) -> &[Task]
+        ensures same { result.now ≡ self.now }
+        ensures few { length self.now ≤ max_tasks }
+        ensures in_range { All TaskRange self.now }
+    {
+        self.list
+    }
+}
+
+// One of the earlier tasks has the priority of this one.
+fn seen(earlier: &[Task], task: &Task) -> bool
+    ensures { IsTrue result ↔ Any (λ other. other.priority ≡ task.now.priority) earlier.now }
+{
+    earlier.iter().any(|other| other.priority == task.priority)
 }
 
 // Test 8: the first task whose priority was seen before.
-pub fn same_priority(tasks: [Task; Graph::TASKS], n: usize) -> Found
-    requires { n ≤ max_tasks }
-    ensures { Of (take n tasks) (λ g. Finds (Repeats g) n result) }
+pub fn same_priority(tasks: &[Task]) -> Option<usize>
+    ensures { Of tasks.now (λ g. Finds (Repeats g) (length tasks.now) result) }
 {
-    let mut i: usize = 0;
-    while i < n {
-        if seen(tasks, i) {
-            return Found::At { index: i };
+    for (i, task) in tasks.iter().enumerate() {
+        if seen(&tasks[..i], task) {
+            return Some(i);
         }
-        i += 1;
     }
-    Found::Nothing
+    None
 }
 
 // The ticks that a job of the task costs at most.
-pub fn cost(task: Task) -> u32
-    ensures { result ≡ cost_of task }
+pub fn cost(task: &Task) -> u32
+    ensures { result ≡ cost_of task.now }
 {
     task.worst
 }
 
 // The task's share of the load, in millionths, rounded down.
-fn share_of(task: Task) -> u64
-    requires { TaskRange task }
-    ensures { result ≡ share task }
+#[tactic(auto, unfolding(crate::specs::Tasks::share))]
+fn share_of(task: &Task) -> u64
+    requires { TaskRange task.now }
+    ensures { result ≡ share task.now }
 {
     cost(task) as u64 * 1_000_000 / task.period as u64
 }
 
-// Test 12: the shares add up to more than a million.
-pub fn overloaded(tasks: [Task; Graph::TASKS], n: usize) -> bool
-    requires n_le_max_tasks { n ≤ max_tasks }
-    requires all { All TaskRange (take n tasks) }
-    ensures { Of (take n tasks) (λ g. result ≡ ltb 1_000_000 (load g)) }
+// The shares of all of them.
+fn total_share(tasks: &[Task]) -> u64
+    requires in_range { Each TaskRange tasks.now }
+    requires fits { sum_by share tasks.now < 2 ^ 64 }
+    ensures { result ≡ sum_by share tasks.now }
 {
-    let mut total: u64 = 0;
-    let mut i: usize = 0;
-    while i < n {
-        total += share_of(tasks[i]);
-        i += 1;
-    }
-    1_000_000 < total
+    tasks.iter().map(share_of).sum()
+}
+
+// Test 12: the shares add up to more than a million.
+pub fn overloaded(tasks: &Tasks) -> bool
+    ensures { Of tasks.now (λ g. result ≡ ltb 1_000_000 (load g)) }
+{
+    1_000_000 < total_share(tasks.list)
 }

@@ -1,13 +1,13 @@
-// The samples that document 01 does not star, and one of our own that is too long to compute in a proof: their replies are compared with the stored output.
+// Samples whose replies are too long to compute in a proof: they are compared with the stored output.
 #![tactic(auto)]
 
+use reply::Numbers;
 use std::io;
 
 fn show(rt: &impl Print, file: &[u8]) -> io::Result<()> {
-    let mut report: [u32; 32] = [0; 32];
+    let mut report = [0; 32];
     let reply = checker::check_file(file, &mut report);
-    let numbers = reply::numbers_of(reply);
-    println!(rt; "{} {} {}", numbers.number, numbers.place, numbers.job)
+    println!(rt; "{}", Numbers::from(reply))
 }
 
 fn main(rt: HostRuntime) -> io::Result<()> {

@@ -1,6 +1,5 @@
-pub mod Put
+pub mod Numbers
 pub mod Rows
 pub mod Links
-pub mod Signed
 pub mod Whole
 pub mod Writing

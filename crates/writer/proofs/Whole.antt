@@ -1,25 +1,29 @@
--- A graph in memory that has a file: its counts, its file sort by sort, and the file's length. Assumes nothing.
-use mathlib.Core.Path.{◌≡◌, refl, ap, ap₂, sym, subst, ◌∙◌}
-use mathlib.Core.List.{List, [], ◌∷◌, ◌++◌, map}
-use Prim.Native.Nat.{ℕ, ◌+◌, ◌*◌, ◌≤◌}
+-- A graph that has a file: its channels in memory, its file sort by sort, and the file's length. Assumes nothing.
+use mathlib.Core.Path.{◌≡◌, refl, ap, sym, subst, ◌∙◌}
+use mathlib.Core.List.{List, [], ◌∷◌, ◌++◌, map, append-nil}
+use Prim.Native.Nat.{ℕ, ◌+◌, ◌*◌}
 use native.Mathlib.Omega.{arith}
-use lib.ListN.{length, take, length-append, length-map}
+use lib.ListN.{length, length-append}
 use Rattle.numbers.specs.Lists.{All}
-use Rattle.graph.specs.Model.{Rates, Link, Graph}
-use Rattle.graph.specs.Memory.{Memory, MemoryLink, view_link, view, laid_rates, laid_link, zero_link, laid}
-use Rattle.graph.proofs.Laid.{pad_length, pad_take}
-use Rattle.format.specs.Record.{encodes, task, relation, be, join}
-use Rattle.format.specs.Writer.{head, records, bytes, Few, FewRates, Counts}
+use Rattle.numbers.proofs.Lists.{all_map}
+use Rattle.graph.specs.declared.Task.{Task}
+use Rattle.graph.specs.declared.Relation.{Relation}
+use Rattle.graph.specs.Model.{Rates, Graph}
+use Rattle.graph.specs.Memory.{MemoryLink, view_link, laid_rates, laid_link}
+use Rattle.graph.proofs.Laid.{pad_length}
+use Rattle.format.specs.Ranges.{RatesRange}
+use Rattle.format.specs.Record.{Record, encodes, task, relation, be, join}
+use Rattle.format.specs.Writer.{head, rates_from, records, bytes}
 use Rattle.format.proofs.Records.{encodes_append}
-use Rattle.format.proofs.Size.{bytes_length}
-use Rattle.formed.specs.Formed.{WellFormed}
-use Rattle.writer.specs.Parts.{head_of, rates_in_order, SideFits, LinkFits}
+use Rattle.formed.specs.Formed.{ChannelFormed}
+use Rattle.output.proofs.Parts.{Then}
+use Rattle.writer.specs.Parts.{head_of, SideFits, LinkFits}
 use Rattle.writer.proofs.Rows.{row_bytes}
 use Rattle.writer.proofs.Links.{links_bytes}
 
--- ---- channels laid into memory
+-- ---- channels in memory
 
-side_fits : (r : Rates) → Few r → SideFits (laid_rates r)
+side_fits : (r : Rates) → RatesRange r → SideFits (laid_rates r)
 side_fits r f =
     record {
       few = f.prefix;
@@ -28,76 +32,67 @@ side_fits r f =
       cycle = omega (arith, pad_length 32 0 r.cycle f.cycle, f.cycle);
     }
 
-links_fit : (cs : List Link) → All FewRates cs → All LinkFits (map laid_link cs)
-links_fit [] h = tt
-links_fit (c ∷ cs) (f, h) =
-    (record { production = side_fits c.production f.production; consumption = side_fits c.consumption f.consumption }, links_fit cs h)
+link_fits : (n : ℕ) (c : MemoryLink) → ChannelFormed n c → LinkFits c
+link_fits n c f =
+    let l = view_link c in
+    let fits : LinkFits (laid_link l) =
+    record { production = side_fits l.production f.ranged.production; consumption = side_fits l.consumption f.ranged.consumption } in
+    subst LinkFits (sym f.padded) fits
+
+pub links_fit : (n : ℕ) (cs : List MemoryLink) → All (ChannelFormed n) cs → All LinkFits cs
+links_fit n cs h = all_map (ChannelFormed n) LinkFits (link_fits n) cs h
 
 heads_are : (cs : List MemoryLink) → map head (map view_link cs) ≡ map head_of cs
 heads_are [] = refl
 heads_are (c ∷ cs) = ap (λ l. head_of c ∷ l) (heads_are cs)
 
--- the lengths of the parts of a graph's file
-abbrev file_length : Memory → ℕ
-file_length g = g.ntasks * 18 + g.nchannels * 11 + length (rates_in_order g.nchannels g.channels) * 6 + g.nrelations * 15
+-- ---- the file, sort by sort, as the lists that are lent have it
 
-pub record Parts (g : Memory) : Type 0 where
-  pub tasks : g.ntasks ≤ 32
-  pub channels : g.nchannels ≤ 64
-  pub relations : g.nrelations ≤ 64
-  pub fit : All LinkFits (take g.nchannels g.channels)
-  pub task_bytes : length (encodes (map task (take g.ntasks g.tasks))) ≡ g.ntasks * 18
-  pub head_bytes : length (encodes (map head_of (take g.nchannels g.channels))) ≡ g.nchannels * 11
-  pub rate_bytes : length (encodes (rates_in_order g.nchannels g.channels)) ≡ length (rates_in_order g.nchannels g.channels) * 6
-  pub relation_bytes : length (encodes (map relation (take g.nrelations g.relations))) ≡ g.nrelations * 15
+module _ (g : Graph) where
+  abbrev rates : List ℕ
+  rates = encodes (rates_from 0 g.channels)
 
--- the file of a graph in memory, sort by sort
-pub file_parts : (g : Memory)
-    → bytes (view g)
-    ≡ encodes (map task (take g.ntasks g.tasks))
-    ++ (encodes (map head_of (take g.nchannels g.channels))
-    ++ (encodes (rates_in_order g.nchannels g.channels) ++ encodes (map relation (take g.nrelations g.relations))))
-unfolding bytes records view
-file_parts g =
-    let ts = map task (take g.ntasks g.tasks) in
-    let hs = map head_of (take g.nchannels g.channels) in
-    let qs = rates_in_order g.nchannels g.channels in
-    let rs = map relation (take g.nrelations g.relations) in
-    ap (λ l. encodes (ts ++ (l ++ (qs ++ rs)))) (heads_are (take g.nchannels g.channels))
-    ∙ encodes_append ts (hs ++ (qs ++ rs))
-    ∙ ap (λ l. encodes ts ++ l) (encodes_append hs (qs ++ rs) ∙ ap (λ l. encodes hs ++ l) (encodes_append qs rs))
+  abbrev relations : List ℕ
+  relations = encodes (map relation g.relations)
 
-pub parts_of : (g : Memory) → WellFormed g → Parts g
-unfolding view laid be join
-parts_of g w =
-    let m : Graph = view g in
-    let n : Counts m = w.formed.counts in
-    let t : g.ntasks ≡ length m.tasks = ap (λ h. h.ntasks) w.padded in
-    let c : g.nchannels ≡ length m.channels = ap (λ h. h.nchannels) w.padded in
-    let r : g.nrelations ≡ length m.relations = ap (λ h. h.nrelations) w.padded in
-    let links : take g.nchannels g.channels ≡ map laid_link m.channels =
-    ap₂ (λ (k : ℕ) (cs : List MemoryLink). take k cs) (c ∙ sym (length-map m.channels laid_link)) (ap (λ h. h.channels) w.padded)
-    ∙ pad_take 64 zero_link (map laid_link m.channels) in
-    record {
-      tasks = omega (arith, n.tasks);
-      channels = omega (arith, n.channels);
-      relations = omega (arith, n.relations);
-      fit = subst (All LinkFits) (sym links) (links_fit m.channels n.rates);
-      task_bytes = row_bytes task 18 (λ x. refl) m.tasks ∙ ap (λ k. k * 18) (sym t);
-      head_bytes =
-          row_bytes head_of 11 (λ x. refl) (take g.nchannels g.channels)
-          ∙ ap (λ k. k * 11) (sym (c ∙ length-map (take g.nchannels g.channels) view_link));
-      rate_bytes = links_bytes 0 m.channels;
-      relation_bytes = row_bytes relation 15 (λ x. refl) m.relations ∙ ap (λ k. k * 15) (sym r);
-    }
+  abbrev behind : List ℕ
+  behind = encodes (map head g.channels) ++ (rates ++ relations)
 
-pub bytes_are : (g : Memory) → Parts g → length (bytes (view g)) ≡ file_length g
-bytes_are g p =
-    let ts = encodes (map task (take g.ntasks g.tasks)) in
-    let hs = encodes (map head_of (take g.nchannels g.channels)) in
-    let qs = encodes (rates_in_order g.nchannels g.channels) in
-    let rs = encodes (map relation (take g.nrelations g.relations)) in
-    omega (arith, ap length (file_parts g), length-append ts (hs ++ (qs ++ rs)), length-append hs (qs ++ rs), length-append qs rs)
+  parts : bytes g ≡ encodes (map task g.tasks) ++ behind
+  unfolding bytes records
+  parts =
+      let ts = map task g.tasks in
+      let hs = map head g.channels in
+      let qs = rates_from 0 g.channels in
+      let ls = map relation g.relations in
+      encodes_append ts (hs ++ (qs ++ ls))
+      ∙ ap (λ x. encodes ts ++ x) (encodes_append hs (qs ++ ls) ∙ ap (λ x. encodes hs ++ x) (encodes_append qs ls))
 
-pub length_small : (g : Memory) → WellFormed g → file_length g ≤ 39104
-length_small g w = omega (arith, bytes_are g (parts_of g w), bytes_length (view g) w.formed)
+  pub tasks_then : {ts : List Task} → ts ≡ g.tasks → Then (bytes g) (encodes (map task ts)) behind
+  tasks_then e = record { parts = parts ∙ ap (λ (l : List Task). encodes (map task l) ++ behind) (sym e) }
+
+  pub heads_then : (cs : List MemoryLink) → map view_link cs ≡ g.channels → Then behind (encodes (map head_of cs)) (rates ++ relations)
+  heads_then cs e =
+      record { parts = ap (λ (l : List Record). encodes l ++ (rates ++ relations)) (ap (map head) (sym e) ∙ heads_are cs) }
+
+  pub rates_then : Then (rates ++ relations) rates relations
+  rates_then = record { parts = refl }
+
+  pub relations_then : {rs : List Relation} → rs ≡ g.relations → Then relations (encodes (map relation rs)) []
+  relations_then {rs} e =
+      record { parts = ap (λ (l : List Relation). encodes (map relation l)) (sym e) ∙ sym (append-nil (encodes (map relation rs))) }
+
+  pub file_long : length (bytes g) ≡ length g.tasks * 18 + length g.channels * 11 + length (rates_from 0 g.channels) * 6 + length g.relations * 15
+  unfolding be join
+  file_long =
+      omega (
+        arith,
+        ap length parts,
+        length-append (encodes (map task g.tasks)) behind,
+        length-append (encodes (map head g.channels)) (rates ++ relations),
+        length-append rates relations,
+        row_bytes task 18 (λ x. refl) g.tasks,
+        row_bytes head 11 (λ x. refl) g.channels,
+        links_bytes 0 g.channels,
+        row_bytes relation 15 (λ x. refl) g.relations,
+      )

@@ -6,8 +6,9 @@ use Prim.Native.Nat.{ℕ, ◌≤◌, ◌<◌}
 use native.Mathlib.Omega.{arith}
 use lib.ListN.{length, take, drop}
 use lib.Seq.{take_at}
-use Rattle.reply.specs.declared.Reply.{Reply}
-use Rattle.reply.specs.declared.Reply.TheVariants.{Accepted, NoFile, ShortOutput}
+use Rattle.std.specs.Prelude.{Ok, Err}
+use Rattle.reply.specs.declared.Refusal.TheVariants.{NoFile, ShortOutput}
+use Rattle.reply.specs.Reply.{Reply}
 use Rattle.graph.specs.Memory.{Memory, view, laid}
 use Rattle.graph.proofs.Laid.{view_laid}
 use Rattle.format.specs.Reader.{taken}
@@ -19,7 +20,7 @@ use Rattle.formed.specs.Formed.{WellFormed}
 use Rattle.formed.specs.Formed.{ReadsAs}
 use Rattle.formed.proofs.Exact.{reads_well, well_reads}
 use Rattle.writer.specs.Writing.{Writes, no_file, short, wrote}
-use Rattle.output.specs.Output.{Puts}
+use Rattle.output.specs.Output.{put}
 use Rattle.output.proofs.Output.{put_front}
 
 -- ---- a graph that some file reads as
@@ -45,17 +46,17 @@ one_graph file g h r q =
 -- ---- the contract is met
 
 module _ (g : Memory) (out : List ℕ) where
-  pub writes_none : ¬ WellFormed g → Writes g out NoFile out
+  pub writes_none : ¬ WellFormed g → Writes g out (Err NoFile) out
   writes_none h = no_file (λ file r. h (reads_well file g r))
 
-  pub writes_short : (n : ℕ) → WellFormed g → n ≡ length (bytes (view g)) → length out < n → Writes g out (ShortOutput n) out
+  pub writes_short : (n : ℕ) → WellFormed g → n ≡ length (bytes (view g)) → length out < n → Writes g out (Err (ShortOutput n)) out
   writes_short n w e h =
-      subst (λ m. Writes g out (ShortOutput m) out) (sym e) (short (bytes (view g)) (well_reads g w) (omega arith))
+      subst (λ m. Writes g out (Err (ShortOutput m)) out) (sym e) (short (bytes (view g)) (well_reads g w) (omega arith))
 
-  pub writes_file : (after : List ℕ) (end : ℕ) → WellFormed g → Puts out 0 (bytes (view g)) after end → Writes g out (Accepted g.ntasks) after
-  writes_file after end w p =
-      subst (Writes g out (Accepted g.ntasks)) (sym (p.bytes ∙ put_front out (bytes (view g))))
-      (wrote (bytes (view g)) (well_reads g w) (omega arith))
+  pub writes_file : (after : List ℕ) → WellFormed g → length (bytes (view g)) ≤ length out → after ≡ put out 0 (bytes (view g))
+      → Writes g out (Ok g.ntasks) after
+  writes_file after w h e =
+      subst (Writes g out (Ok g.ntasks)) (sym (e ∙ put_front out (bytes (view g)))) (wrote (bytes (view g)) (well_reads g w) h)
 
 -- ---- and leaves one outcome
 
@@ -64,17 +65,17 @@ determined g out (no_file h) (no_file k) = (refl, refl)
 determined g out (no_file h) (short file r l) = absurd (h file r)
 determined g out (no_file h) (wrote file r l) = absurd (h file r)
 determined g out (short file r l) (no_file k) = absurd (k file r)
-determined g out (short file r l) (short other q m) = (ap (λ f. ShortOutput (length f)) (one_file r q), refl)
+determined g out (short file r l) (short other q m) = (ap (λ f. Err (ShortOutput (length f))) (one_file r q), refl)
 determined g out (short file r l) (wrote other q m) = absurd (omega (arith, ap length (one_file r q)))
 determined g out (wrote file r l) (no_file k) = absurd (k file r)
 determined g out (wrote file r l) (short other q m) = absurd (omega (arith, ap length (one_file r q)))
 determined g out (wrote file r l) (wrote other q m) = (refl, ap (λ f. f ++ drop (length f) out) (one_file r q))
 
 -- 18 exactly when no file reads as the graph
-pub no_file_iff : (g : Memory) (out : List ℕ) {r : Reply} {after : List ℕ} → Writes g out r after → (r ≡ NoFile) ↔ ((file : List ℕ) → ¬ ReadsAs file g)
+pub no_file_iff : (g : Memory) (out : List ℕ) {r : Reply} {after : List ℕ} → Writes g out r after → (r ≡ Err NoFile) ↔ ((file : List ℕ) → ¬ ReadsAs file g)
 no_file_iff g out w = (to w, λ h. (determined g out w (no_file h)).0)
   where
-    to : {r : Reply} {after : List ℕ} → Writes g out r after → r ≡ NoFile → (file : List ℕ) → ¬ ReadsAs file g
+    to : {r : Reply} {after : List ℕ} → Writes g out r after → r ≡ Err NoFile → (file : List ℕ) → ¬ ReadsAs file g
     to (no_file h) e = h
     to (short file q l) e = let z : ◌≡◌ {A = ℕ} 0 1 = cc in absurd (omega arith)
     to (wrote file q l) e = let z : ◌≡◌ {A = ℕ} 0 1 = cc in absurd (omega arith)
@@ -83,11 +84,11 @@ no_file_iff g out w = (to w, λ h. (determined g out w (no_file h)).0)
 
 -- a file that reads as the graph: written with room for it, the same bytes stand at the front
 pub file_back : (file : List ℕ) (g : Memory) (out : List ℕ) {r : Reply} {after : List ℕ} → ReadsAs file g → length file ≤ length out → Writes g out r after
-    → (r ≡ Accepted g.ntasks) × (after ≡ file ++ drop (length file) out)
+    → (r ≡ Ok g.ntasks) × (after ≡ file ++ drop (length file) out)
 file_back file g out q l w = determined g out w (wrote file q l)
 
 -- what an accepting writer put at the front reads as the graph, and as no other
-pub graph_back : (g : Memory) (out : List ℕ) (n : ℕ) (after : List ℕ) → Writes g out (Accepted n) after
+pub graph_back : (g : Memory) (out : List ℕ) (n : ℕ) (after : List ℕ) → Writes g out (Ok n) after
     → (file : List ℕ) × (take (length file) after ≡ file) × ReadsAs file g × ((h : Memory) → ReadsAs file h → h ≡ g)
 graph_back g out n after (wrote file q l) =
     (file, take_at file (drop (length file) out) (length file) refl, q, λ h p. one_graph file h g p q)

@@ -1,278 +1,208 @@
 // The writer: a graph in memory to a graph file.
 #![tactic(auto)]
 
-ghost use Rattle.std.specs.Prelude.{◌≡◌, map, ◌+◌, ◌*◌, ◌≤◌, length, take};
-ghost use Rattle.graph.specs.Model.{max_tasks, max_channels, max_relations};
-ghost use Rattle.numbers.specs.Lists.{All};
-ghost use Rattle.graph.specs.Memory.{view, view_rates, view_link};
-ghost use Rattle.format.specs.Record.{be, wrap, encode, encodes, task, channel, rate, relation};
-ghost use Rattle.format.specs.Writer.{rates_of, bytes};
-ghost use Rattle.formed.specs.Formed.{WellFormed};
-ghost use Rattle.output.specs.Output.{Puts};
-ghost use Rattle.writer.specs.Parts.{head_of, side_records, rates_in_order, SideFits, LinkFits};
+ghost use Rattle.std.specs.Prelude.{◌≡◌, map, ◌≤◌, length};
+ghost use Rattle.graph.specs.Memory.{view_rates, view_link};
+ghost use Rattle.format.specs.Record.{Record, encode, encodes, task, rate, relation};
+ghost use Rattle.format.specs.Writer.{rates_of, rates_from, bytes};
+ghost use Rattle.output.specs.Cursor.{HasRoom, Wrote};
+ghost use Rattle.writer.specs.Parts.{head_of, side_records, SideFits, LinkFits};
 ghost use Rattle.writer.specs.Writing.{Writes};
 
-use formed::formed;
+use formed::Formed;
 use graph::{Channel, Graph, Relation, Side, Task};
-use reply::Reply;
+use output::Cursor;
+use reply::{Refusal, Reply};
 
-// One byte at a place of the output; the answer is the next place.
-fn put_byte(x: u8, at: usize, out: &mut [u8]) -> usize
-    requires { at + 1 ≤ length out.old }
-    ensures { Puts out.old at (be 1 x) out.new result }
-{
-    out[at] = x;
-    at + 1
+// What a file has one record for, which may name the item's place beside the item.
+trait Item {
+    type Place;
+
+    // the record's first byte, and its length
+    const KIND: u8;
+
+    const LENGTH: usize;
+
+    ghost as_record: { Self.Place → Self → Record };
+
+    // Writes the item's record.
+    fn put(&self, place: &Self::Place, to: &mut Cursor)
+        requires { HasRoom to.old (length (encode (as_record place.now self.now))) }
+        ensures { Wrote to.old (encode (as_record place.now self.now)) to.new };
 }
 
-// A number in 2 bytes, big-endian.
-fn put_u16(x: u16, at: usize, out: &mut [u8]) -> usize
-    requires { at + 2 ≤ length out.old }
-    ensures { Puts out.old at (be 2 x) out.new result }
-{
-    out[at] = (x / 256) as u8;
-    out[at + 1] = (x % 256) as u8;
-    at + 2
-}
+impl Item for Task {
+    type Place = ();
 
-// A number in 4 bytes, big-endian.
-fn put_u32(x: u32, at: usize, out: &mut [u8]) -> usize
-    requires { at + 4 ≤ length out.old }
-    ensures { Puts out.old at (be 4 x) out.new result }
-{
-    out[at] = (x / 16777216) as u8;
-    out[at + 1] = (x / 65536 % 256) as u8;
-    out[at + 2] = (x / 256 % 256) as u8;
-    out[at + 3] = (x % 256) as u8;
-    at + 4
-}
+    const KIND: u8 = 1;
 
-// The two's complement of a signed number.
-fn wrapped(phi: i32) -> u32
-    ensures { result ≡ wrap phi }
-{
-    if phi < 0 {
-        ((phi as i64) + 0x1_0000_0000) as u32
-    } else {
-        phi as u32
+    const LENGTH: usize = 18;
+
+    ghost as_record = { λ _. task };
+
+    #[tactic(auto, unfolding(format::specs::Record::be, format::specs::Record::join))]
+    fn put(&self, _place: &(), to: &mut Cursor) {
+        to.put(&[Self::KIND]);
+        to.put(&self.period.to_be_bytes());
+        to.put(&self.offset.to_be_bytes());
+        to.put(&self.deadline.to_be_bytes());
+        to.put(&self.worst.to_be_bytes());
+        to.put(&[self.priority]);
     }
 }
 
-// The record of a task.
-fn put_task(t: Task, at: usize, out: &mut [u8]) -> usize
-    requires { at + 18 ≤ length out.old }
-    ensures { Puts out.old at (encode (task t)) out.new result }
-{
-    let a = put_byte(1, at, out);
-    let b = put_u32(t.period, a, out);
-    let c = put_u32(t.offset, b, out);
-    let d = put_u32(t.deadline, c, out);
-    let e = put_u32(t.worst, d, out);
-    put_byte(t.priority, e, out)
-}
+impl Item for Channel {
+    type Place = ();
 
-// The record of a channel.
-fn put_channel(
-    producer: u8,
-    consumer: u8,
-    initial: u32,
-    size: u32,
-    at: usize,
-    out: &mut [u8],
-) -> usize
-    requires { at + 11 ≤ length out.old }
-    ensures { Puts out.old at (encode (channel producer consumer initial size)) out.new result }
-{
-    let a = put_byte(2, at, out);
-    let b = put_byte(producer, a, out);
-    let c = put_byte(consumer, b, out);
-    let d = put_u32(initial, c, out);
-    put_u32(size, d, out)
-}
+    const KIND: u8 = 2;
 
-// The record of a rate.
-fn put_rate(channel: u8, side: u8, part: u8, tokens: u16, at: usize, out: &mut [u8]) -> usize
-    requires { at + 6 ≤ length out.old }
-    ensures { Puts out.old at (encode (rate channel side part tokens)) out.new result }
-{
-    let a = put_byte(3, at, out);
-    let b = put_byte(channel, a, out);
-    let c = put_byte(side, b, out);
-    let d = put_byte(part, c, out);
-    put_u16(tokens, d, out)
-}
+    const LENGTH: usize = 11;
 
-// The record of a relation.
-fn put_relation(r: Relation, at: usize, out: &mut [u8]) -> usize
-    requires { at + 15 ≤ length out.old }
-    ensures { Puts out.old at (encode (relation r)) out.new result }
-{
-    let phi = wrapped(r.phi);
-    let a = put_byte(4, at, out);
-    let b = put_byte(r.p, a, out);
-    let c = put_byte(r.q, b, out);
-    let d = put_u32(r.n, c, out);
-    let e = put_u32(phi, d, out);
-    put_u32(r.d, e, out)
-}
+    ghost as_record = { λ _. head_of };
 
-// The records of the first n tasks.
-fn put_tasks(tasks: [Task; Graph::TASKS], n: usize, at: usize, out: &mut [u8]) -> usize
-    requires { (n ≤ max_tasks) × (at + n * 18 ≤ length out.old) }
-    ensures { Puts out.old at (encodes (map task (take n tasks))) out.new result }
-{
-    let mut next = at;
-    let mut i: usize = 0;
-    while i < n {
-        let t = tasks[i];
-        next = put_task(t, next, out);
-        i += 1;
+    #[tactic(auto, unfolding(format::specs::Record::be, format::specs::Record::join))]
+    fn put(&self, _place: &(), to: &mut Cursor) {
+        to.put(&[Self::KIND, self.producer, self.consumer]);
+        to.put(&self.initial.to_be_bytes());
+        to.put(&self.size.to_be_bytes());
     }
-    next
 }
 
-// The records of the first n channels.
-fn put_channels(channels: [Channel; Graph::CHANNELS], n: usize, at: usize, out: &mut [u8]) -> usize
-    requires { (n ≤ max_channels) × (at + n * 11 ≤ length out.old) }
-    ensures { Puts out.old at (encodes (map head_of (take n channels))) out.new result }
-{
-    let mut next = at;
-    let mut i: usize = 0;
-    while i < n {
-        let c = channels[i];
-        next = put_channel(c.producer, c.consumer, c.initial, c.size, next, out);
-        i += 1;
+impl Item for Relation {
+    type Place = ();
+
+    const KIND: u8 = 4;
+
+    const LENGTH: usize = 15;
+
+    ghost as_record = { λ _. relation };
+
+    #[tactic(auto, unfolding(format::specs::Record::be, format::specs::Record::join))]
+    fn put(&self, _place: &(), to: &mut Cursor) {
+        to.put(&[Self::KIND, self.p, self.q]);
+        to.put(&self.n.to_be_bytes());
+        to.put(&self.phi.cast_unsigned().to_be_bytes());
+        to.put(&self.d.to_be_bytes());
     }
-    next
 }
 
-// The records of the first n relations.
-fn put_relations(
-    relations: [Relation; Graph::RELATIONS],
-    n: usize,
-    at: usize,
-    out: &mut [u8],
-) -> usize
-    requires { (n ≤ max_relations) × (at + n * 15 ≤ length out.old) }
-    ensures { Puts out.old at (encodes (map relation (take n relations))) out.new result }
-{
-    let mut next = at;
-    let mut i: usize = 0;
-    while i < n {
-        let r = relations[i];
-        next = put_relation(r, next, out);
-        i += 1;
-    }
-    next
+// Which list of rates: the channel's number, its side (0: production), and the part (0: prefix).
+#[derive(Clone, Copy)]
+struct RateList {
+    channel: u8,
+    side: u8,
+    part: u8,
 }
 
-// The records of one list of rates.
-fn put_rates(list: &[u16], channel: u8, side: u8, part: u8, at: usize, out: &mut [u8]) -> usize
-    requires { at + length list.now * 6 ≤ length out.old }
-    ensures puts { Puts out.old at (encodes (map (rate channel side part) list.now)) out.new result }
-    ensures value { result ≡ at + length list.now * 6 }
-{
-    let mut next = at;
-    let mut i: usize = 0;
-    while i < list.len() {
-        next = put_rate(channel, side, part, list[i], next, out);
-        i += 1;
+// The tokens of one rate.
+impl Item for u16 {
+    type Place = RateList;
+
+    const KIND: u8 = 3;
+
+    const LENGTH: usize = 6;
+
+    ghost as_record = { λ l tokens. rate l.channel l.side l.part tokens };
+
+    #[tactic(auto, unfolding(format::specs::Record::be, format::specs::Record::join))]
+    fn put(&self, list: &RateList, to: &mut Cursor) {
+        to.put(&[Self::KIND, list.channel, list.side, list.part]);
+        to.put(&self.to_be_bytes());
     }
-    next
+}
+
+// The records of the items at one place.
+fn put_all<T: Item>(items: &[T], place: &T::Place, to: &mut Cursor)
+    requires { HasRoom to.old (length (encodes (map (T.as_record place.now) items.now))) }
+    ensures { Wrote to.old (encodes (map (T.as_record place.now) items.now)) to.new }
+{
+    for item in items {
+        item.put(place, to);
+    }
 }
 
 // The records of one side of a channel: its prefix and then its cycle.
-fn put_side(s: Side, channel: u8, side: u8, at: usize, out: &mut [u8]) -> usize
-    requires { SideFits s × (at + (s.plen + s.clen) * 6 ≤ length out.old) }
-    ensures { Puts out.old at (encodes (side_records channel side (view_rates s))) out.new result }
+fn put_side(s: &Side, channel: u8, side: u8, to: &mut Cursor)
+    requires fits { SideFits s.now }
+    requires room { HasRoom to.old (length (encodes (side_records channel side (view_rates s.now)))) }
+    ensures { Wrote to.old (encodes (side_records channel side (view_rates s.now))) to.new }
 {
-    let prefix = s.prefix;
-    let cycle = s.cycle;
-    let p = s.plen;
-    let c = s.clen;
-    let middle = put_rates(&prefix[..p], channel, side, 0, at, out);
-    put_rates(&cycle[..c], channel, side, 1, middle, out)
+    let prefix = RateList {
+        channel,
+        side,
+        part: 0,
+    };
+    let cycle = RateList { part: 1, ..prefix };
+    put_all(&s.prefix[..s.plen], &prefix, to);
+    put_all(&s.cycle[..s.clen], &cycle, to);
 }
 
-// The records of the rates of a channel: production and then consumption.
-fn put_link(c: Channel, i: u8, at: usize, out: &mut [u8]) -> usize
-    requires { LinkFits c × (at + length (rates_of i (view_link c)) * 6 ≤ length out.old) }
-    ensures { Puts out.old at (encodes (rates_of i (view_link c))) out.new result }
+// The records of the rates of channel i: production and then consumption.
+fn put_link(c: &Channel, i: u8, to: &mut Cursor)
+    requires fits { LinkFits c.now }
+    requires room { HasRoom to.old (length (encodes (rates_of i (view_link c.now)))) }
+    ensures { Wrote to.old (encodes (rates_of i (view_link c.now))) to.new }
 {
-    let production = c.production;
-    let consumption = c.consumption;
-    let middle = put_side(production, i, 0, at, out);
-    put_side(consumption, i, 1, middle, out)
+    put_side(&c.production, i, 0, to);
+    put_side(&c.consumption, i, 1, to);
 }
 
-// The records of the rates of the first n channels.
-fn put_links(channels: [Channel; Graph::CHANNELS], n: usize, at: usize, out: &mut [u8]) -> usize
-    requires { (n ≤ max_channels) × (All LinkFits (take n channels) × (at + length (rates_in_order n channels) * 6 ≤ length out.old)) }
-    ensures { Puts out.old at (encodes (rates_in_order n channels)) out.new result }
+// The records of the rates of the channels.
+fn put_links(graph: &Formed, to: &mut Cursor)
+    requires { HasRoom to.old (length (encodes (rates_from 0 graph.now.channels))) }
+    ensures { Wrote to.old (encodes (rates_from 0 graph.now.channels)) to.new }
 {
-    let mut next = at;
-    let mut i: usize = 0;
-    while i < n {
-        let c = channels[i];
-        next = put_link(c, i as u8, next, out);
-        i += 1;
+    let channels = graph.channels();
+    for (i, c) in channels.iter().enumerate() {
+        put_link(c, i as u8, to);
     }
-    next
 }
 
-// How many entries the rates of the first n channels have.
-fn entries_of(channels: [Channel; Graph::CHANNELS], n: usize) -> usize
-    requires { (n ≤ max_channels) × All LinkFits (take n channels) }
-    ensures { result ≡ length (rates_in_order n channels) }
+// How many entries the rates of the channels have.
+fn entries_of(graph: &Formed) -> usize
+    ensures { result ≡ length (rates_from 0 graph.now.channels) }
 {
-    let mut total: usize = 0;
-    let mut i: usize = 0;
-    while i < n {
-        let c = channels[i];
-        let p = c.production;
-        let q = c.consumption;
-        total = total + (p.plen + p.clen) + (q.plen + q.clen);
-        i += 1;
+    let channels = graph.channels();
+    let mut total = 0;
+    for c in channels {
+        total += c.production.plen + c.production.clen;
+        total += c.consumption.plen + c.consumption.clen;
     }
     total
 }
 
-// The length of a graph's file.
-fn length_of(g: Graph) -> usize
-    requires { WellFormed g }
-    ensures { result ≡ length (bytes (view g)) }
+// The length of the graph's file.
+fn length_of(graph: &Formed) -> usize
+    ensures { result ≡ length (bytes graph.now) }
 {
-    let channels = g.channels;
-    let entries = entries_of(channels, g.nchannels);
-    g.ntasks * 18 + g.nchannels * 11 + entries * 6 + g.nrelations * 15
+    graph.tasks().len() * Task::LENGTH
+        + graph.channels().len() * Channel::LENGTH
+        + entries_of(graph) * u16::LENGTH
+        + graph.relations().len() * Relation::LENGTH
 }
 
-// The file of a graph at the front of the output.
-fn put_graph(g: Graph, out: &mut [u8]) -> usize
-    requires { WellFormed g × (length (bytes (view g)) ≤ length out.old) }
-    ensures { Puts out.old 0 (bytes (view g)) out.new result }
+// The graph's file.
+fn put_graph(graph: &Formed, to: &mut Cursor)
+    requires { HasRoom to.old (length (bytes graph.now)) }
+    ensures { Wrote to.old (bytes graph.now) to.new }
 {
-    let tasks = g.tasks;
-    let channels = g.channels;
-    let relations = g.relations;
-    let a = put_tasks(tasks, g.ntasks, 0, out);
-    let b = put_channels(channels, g.nchannels, a, out);
-    let c = put_links(channels, g.nchannels, b, out);
-    put_relations(relations, g.nrelations, c, out)
+    put_all(graph.tasks(), &(), to);
+    put_all(graph.channels(), &(), to);
+    put_links(graph, to);
+    put_all(graph.relations(), &(), to);
 }
 
 // Writes the graph's file into the first bytes of the output. Nothing is written where the graph has no file or the output is shorter than it.
-pub fn write(graph: Graph, out: &mut [u8]) -> Reply
-    ensures { Writes graph out.old result out.new }
+pub fn write(graph: &Graph, out: &mut [u8]) -> Reply
+    ensures { Writes graph.now out.old result out.new }
 {
-    if !formed(graph) {
-        return Reply::NoFile;
-    }
-    let needed = length_of(graph);
+    let Some(formed) = Formed::of(graph) else {
+        return Err(Refusal::NoFile);
+    };
+    let needed = length_of(&formed);
     if out.len() < needed {
-        return Reply::ShortOutput { needed: needed };
+        return Err(Refusal::ShortOutput { needed });
     }
-    put_graph(graph, out);
-    let tasks = graph.ntasks;
-    Reply::Accepted { tasks: tasks }
+    put_graph(&formed, &mut Cursor::new(out));
+    Ok(graph.ntasks)
 }

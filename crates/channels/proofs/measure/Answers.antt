@@ -22,10 +22,11 @@ overflow_mul-ticks c =
     let few : q ≤ 32_000_000 = omega (arith, div-le_self c.args.a c.common.result, c.requires.a_most) in
     omega (arith, mul-le-mul {n₁ = q} {m₁ = c.args.b} {n₂ = 32_000_000} {m₂ = 32_000_000} few c.requires.b_most)
 
-pub returns-then-ticks-least-gt65536 : goal.returns-then-ticks-least-gt65536
-returns-then-ticks-least-gt65536 c =
-    subst (λ x. 65536 < x / c.args.least) (is ((goal.at.returns-then-ticks-least-gt65536 c).After-common)) c.if-ticks-least-gt65536.true
+pub returns-then-ticks-least-le65536 : goal.returns-then-ticks-least-le65536
+returns-then-ticks-least-le65536 c =
+    let e = is ((goal.at.returns-then-ticks-least-le65536 c).After-common) in
+    (e, subst (λ x. x / c.args.least ≤ 65536) e c.if-ticks-least-le65536.true)
 
-pub returns : goal.returns
-returns c =
-    (is ((goal.at.returns c).After-common), subst (λ x. x / c.args.least ≤ 65536) (is ((goal.at.returns c).After-common)) (omega arith))
+pub returns-else-ticks-least-le65536 : goal.returns-else-ticks-least-le65536
+returns-else-ticks-least-le65536 c =
+    subst (λ x. 65536 < x / c.args.least) (is ((goal.at.returns-else-ticks-least-le65536 c).After-common)) c.if-ticks-least-le65536.false

@@ -1,11 +1,6 @@
--- What the loop of `channels::totals` keeps, and what falls. Assumes nothing.
-use Prim.Native.Nat.{◌+◌, ◌-◌}
-use lib.ListN.{length}
+-- What the loop of `channels::totals` keeps. Assumes nothing.
 use Rattle.channels.proofs.Tables.{Filled}
 use Rattle.channels.proofs.totals.Given as goal
 
-abbrev pub invariant-loop-i : goal.invariant-loop-i
-invariant-loop-i l = Filled l.prefix l.cycle l.sums.at l.sum l.i
-
-abbrev pub decreases-loop-i : goal.decreases-loop-i
-decreases-loop-i l = length l.prefix + length l.cycle - l.i
+abbrev pub invariant-loop-job : goal.invariant-loop-job
+invariant-loop-job l = Filled l.prefix l.cycle l.sums l.sum l.job

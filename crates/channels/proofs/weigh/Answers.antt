@@ -1,37 +1,33 @@
 -- `channels::weigh` meets its contract. Assumes nothing.
-use native.Mathlib.Omega.{arith}
-use Rattle.channels.proofs.Weighing.{span_most, spans, in_balance, off_balance, too_long, under_asks, over_asks, means}
+use mathlib.Core.Path.{refl}
+use Prim.Native.Nat.{min}
+use Rattle.channel.specs.Side.{span}
+use Rattle.channel.specs.Channel.{Balanced}
+use Rattle.channels.specs.Answers.{Measured}
+use Rattle.channels.proofs.Tables.{Known, known}
+use Rattle.channels.proofs.Weighing.{under_asks, over_asks}
 use Rattle.channels.proofs.weigh.Goals as goal
+use Rattle.channels.proofs.weigh.Goals.{After-measure}
 
-pub overflow_mul-pspan : goal.overflow_mul-pspan
-overflow_mul-pspan c = omega (arith, span_most _ c.requires.producer)
+module _ (c : After-measure) where
+  producer : Known c.producer.inside c.args.producer.now
+  producer = known c.producer.view_is c.producer.invariant
 
-pub overflow_mul-cspan : goal.overflow_mul-cspan
-overflow_mul-cspan c = omega (arith, span_most _ c.requires.consumer)
+  consumer : Known c.consumer.inside c.args.consumer.now
+  consumer = known c.consumer.view_is c.consumer.invariant
 
-pub measure-window-requires : goal.measure-window-requires
-measure-window-requires c = rw c.smaller.ensures (spans _ c.requires)
+  balanced : Balanced c.args.producer.now c.args.consumer.now
+  balanced = c.if-not-balanced.ensures.0 refl
 
-pub returns-in_default : goal.returns-in_default
-returns-in_default c =
-    let measured = rw c.smaller.ensures at c.measure-window.ensures in
-    (c.if-size-initial.false, in_balance _ c.requires c.balanced.result c.balanced.ensures c.if-balanced.true, too_long _ c.requires c.measure-window.result measured c.in_default.is)
+  measured : Measured (span c.args.producer.now) (span c.args.consumer.now) (min c.args.producer.now.period c.args.consumer.now.period) c.measure.result
+  measured = rw (c.span.ensures, c.span-2.ensures, c.min-least.ensures, producer.period, consumer.period) at c.measure.ensures
 
-pub shortages-requires : goal.shortages-requires
-shortages-requires c =
-    let measured = rw c.smaller.ensures at c.measure-window.ensures in
-    let balance = in_balance _ c.requires c.balanced.result c.balanced.ensures c.if-balanced.true in
-    record {
-      repeats = over_asks _ c.requires c.measure-window.result measured c.in-Length.ticks c.in-Length.is balance;
-      repeats_2 = under_asks _ c.requires c.measure-window.result measured c.in-Length.ticks c.in-Length.is balance;
-    }
+pub decide-requires : goal.decide-requires
+decide-requires c =
+    let p = (goal.at.decide-requires c).After-measure in
+    under_asks _ _ (producer p).limited (consumer p).limited (balanced p) _ _ (measured p) c.in_ok-length.ensures.ok_part
 
-pub returns-in-Length : goal.returns-in-Length
-returns-in-Length c =
-    let measured = rw c.smaller.ensures at c.measure-window.ensures in
-    let balance = in_balance _ c.requires c.balanced.result c.balanced.ensures c.if-balanced.true in
-    means _ c.requires c.measure-window.result measured c.in-Length.ticks c.in-Length.is balance c.if-size-initial.false c.shortages.result c.shortages.ensures
-
-pub returns-else-balanced : goal.returns-else-balanced
-returns-else-balanced c =
-    (c.if-size-initial.false, off_balance _ c.requires c.balanced.result c.balanced.ensures c.if-balanced.false)
+pub decide-requires-2 : goal.decide-requires-2
+decide-requires-2 c =
+    let p = (goal.at.decide-requires-2 c).After-measure in
+    over_asks _ _ (producer p).limited (consumer p).limited (balanced p) _ _ (measured p) c.in_ok-length.ensures.ok_part

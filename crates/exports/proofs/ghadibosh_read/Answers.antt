@@ -2,4 +2,4 @@
 use Rattle.exports.proofs.ghadibosh_read.Goals as goal
 
 pub returns : goal.returns
-returns c = record { reading = _; gives = c.read-reading.ensures; numbers = c.tell.ensures }
+returns c = record { reading = _; gives = c.read-reply.ensures; numbers = c.tell.ensures }

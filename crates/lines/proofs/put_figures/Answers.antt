@@ -1,33 +1,19 @@
 -- `lines::put_figures` meets its contract: a turn writes one line more. Assumes nothing.
-use mathlib.Core.Path.{◌≡◌}
+use mathlib.Core.Path.{ap}
 use native.Mathlib.Omega.{arith}
-use lib.ListN.{length}
-use borrow.Author.Rules.{rules}
-use Rattle.lines.proofs.Figures.{column_start, column_room, column_half, column_more, column_end}
+use Rattle.output.proofs.Parts.{wrote_nothing, wrote_same}
+use Rattle.lines.specs.Lines.{feed, word, figure_lines}
+use Rattle.lines.proofs.Figures.{figure_put}
 use Rattle.lines.proofs.put_figures.Goals as goal
 
 pub loop-i-init : goal.loop-i-init
-loop-i-init c =
-    let e : length c.args.figures ≡ 32 = search rules in
-    column_start _ _ _ _ (omega arith) (omega arith) (omega arith)
-
-pub put-middle-requires : goal.put-middle-requires
-put-middle-requires c =
-    let r = c.loop-i.invariant in
-    column_room _ _ _ _ r (omega arith)
-
-pub put-next-requires : goal.put-next-requires
-put-next-requires c =
-    let r = c.loop-i.invariant in
-    let p = c.put-middle.ensures in
-    omega (arith, column_half _ _ _ _ r (omega arith) p.puts p.upper_bound)
+unfolding figure_lines
+loop-i-init c = record { short = omega arith; wrote = wrote_nothing (omega arith) }
 
 pub loop-i-preserved : goal.loop-i-preserved
 loop-i-preserved c =
-    let r = c.loop-i.invariant in
-    let p = c.put-middle.ensures in
-    let q = c.put-next.ensures in
-    column_more _ _ _ _ r (omega arith) p.puts p.upper_bound q.puts q.upper_bound
-
-pub returns : goal.returns
-returns c = column_end _ _ _ _ c.loop-i.invariant (omega arith)
+    record {
+      short = omega arith;
+      wrote = figure_put _ _ (omega arith) c.loop-i.invariant.wrote c.put_word.ensures.word
+          (wrote_same (ap (λ n. word n feed) c.from.ensures) c.put_word-in-loop-i.ensures.word);
+    }

@@ -1,10 +1,12 @@
--- What the loop of `lines::put_figures` keeps, and what falls. Assumes nothing.
-use Prim.Native.Nat.{◌-◌}
-use Rattle.lines.proofs.Figures.{Column}
+-- What the loop of `lines::put_figures` keeps: the lines of the figures so far are written. Assumes nothing.
+use Prim.Native.Nat.{◌+◌, ◌*◌, ◌≤◌}
+use lib.ListN.{take}
+use Rattle.output.specs.Cursor.{Wrote}
+use Rattle.lines.specs.Lines.{figure_lines}
 use Rattle.lines.proofs.put_figures.Given as goal
 
 abbrev pub invariant-loop-i : goal.invariant-loop-i
-invariant-loop-i l = Column l.figures l.n l.initial.out l.at l.out l.next l.i
-
-abbrev pub decreases-loop-i : goal.decreases-loop-i
-decreases-loop-i l = l.n - l.i
+invariant-loop-i l = record {
+  short : l.cursor.at ≤ l.initial.cursor.at + l.i * 42;
+  wrote : Wrote l.initial.cursor (figure_lines 0 (take l.i l.figures)) l.cursor;
+}

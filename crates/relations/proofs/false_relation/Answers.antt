@@ -1,34 +1,20 @@
 -- `relations::false_relation` meets its contract: every relation passed holds. Assumes nothing.
-use mathlib.Core.List.{List}
-use lib.ListN.{take, get_or}
-use lib.Seq.{get_or-take}
-use Rattle.graph.specs.declared.Relation.{Relation}
-use Rattle.graph.specs.Model.{Graph, no_relation, relation}
-use Rattle.rules.specs.Rules.{Holds}
-use native.Mathlib.Omega.{arith}
-use mathlib.Core.Path.{◌≡◌, sym, ap, ◌∙◌, subst}
-use Prim.Native.Nat.{ℕ, ◌<◌}
+use mathlib.Core.Path.{sym, ◌∙◌}
+use mathlib.Core.Bool.{false≢true}
+use borrow.Author.Count.{below_more}
+use Rattle.relations.proofs.Lookup.{relation_is}
 use Rattle.relations.proofs.false_relation.Goals as goal
-
-relation_is : (rs : List Relation) (m : ℕ) (g : Graph) → g.relations ≡ take m rs → (i : ℕ) → i < m → relation g i ≡ get_or rs i no_relation
-unfolding relation
-relation_is rs m g e i h = ap (λ l. get_or l i no_relation) e ∙ get_or-take m rs i no_relation h
 
 pub returns-then-not-holds : goal.returns-then-not-holds
 returns-then-not-holds c =
-    let l = c.loop-i in
-    let next = c.loop-i-test.true in
-    let at = relation_is c.args.relations c.args.m in
     λ g e f. (
-      next,
+      c.loop-i-test.true,
       (
-        λ h. (c.holds.ensures g e).1 c.if-not-holds.true (subst (Holds g) (at g f l.i next) h),
-        λ j k h. h (subst (Holds g) (sym (at g f j (omega arith))) (l.invariant.1 g e j k)),
+        λ h. let no = rw (relation_is g f c.loop-i.i) at h in false≢true (sym c.if-not-holds.true ∙ (c.holds.ensures g e).1 no),
+        λ j k h. h (c.loop-i.invariant g e f j k),
       ),
     )
 
-pub returns : goal.returns
-returns c =
-    let a = c.args in
-    let l = c.loop-i in
-    λ g e f i h no. no (subst (Holds g) (sym (relation_is a.relations a.m g f i h)) (l.invariant.1 g e i (omega arith)))
+pub loop-i-preserved : goal.loop-i-preserved
+loop-i-preserved c =
+    λ g e f. below_more _ c.loop-i.i (c.loop-i.invariant g e f) (rw (relation_is g f c.loop-i.i) ((c.holds.ensures g e).0 c.if-not-holds.false))

@@ -1,28 +1,18 @@
--- `tasks::same_priority` meets its contract: no task passed has a priority seen before. Assumes nothing.
+-- `tasks::same_priority` meets its contract. Assumes nothing.
+use Rattle.std.proofs.Common.{arith}
+use mathlib.Core.Bool.{false≢true}
+use mathlib.Core.Path.{sym, ◌∙◌}
 use borrow.Author.Count.{below_more}
-use Rattle.tasks.proofs.Tasks.{before_repeats, repeats_before}
-use native.Mathlib.Omega.{arith}
+use Rattle.tasks.proofs.Load.{repeats, seen_before}
 use Rattle.tasks.proofs.same_priority.Goals as goal
 
 pub returns-then-seen : goal.returns-then-seen
-returns-then-seen c =
-    let a = c.args in
-    let l = c.loop-i in
-    λ g e. (
-      c.loop-i-test.true,
-      (
-        before_repeats a.tasks a.n g e l.i (omega arith) (c.seen.ensures.before c.if-seen.true),
-        λ j h q. l.invariant.1.1 j h (repeats_before a.tasks a.n g e j (omega arith) q),
-      ),
-    )
+returns-then-seen c = λ g e. (c.loop-i-test.true, (repeats g e c.loop-i.i c.loop-i-test.true (c.seen.ensures.0 c.if-seen.true), c.loop-i.invariant g e))
 
 pub loop-i-preserved : goal.loop-i-preserved
 loop-i-preserved c =
-    let l = c.loop-i in
-    (omega arith, (omega arith, below_more _ _ l.invariant.1.1 (c.seen.ensures.not_before c.if-seen.false)))
+    λ g e. below_more _ c.loop-i.i (c.loop-i.invariant g e)
+    (λ r. absurd (false≢true (sym c.if-seen.false ∙ c.seen.ensures.1 (seen_before g e c.loop-i.i c.loop-i-test.true r))))
 
 pub returns : goal.returns
-returns c =
-    let a = c.args in
-    let l = c.loop-i in
-    λ g e i h q. l.invariant.1.1 i (omega arith) (repeats_before a.tasks a.n g e i h q)
+returns c = λ g e i h. c.loop-i.invariant g e i (omega arith)

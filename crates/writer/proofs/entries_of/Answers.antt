@@ -1,38 +1,30 @@
 -- `writer::entries_of` meets its contract: channel by channel. Assumes nothing.
-use borrow.Author.Rules.{rules}
 use native.Mathlib.Omega.{arith}
-use mathlib.Core.Path.{◌≡◌}
+use mathlib.Core.Path.{ap}
 use lib.ListN.{length}
-use Rattle.writer.proofs.Links.{counted_start, counted_fits, counted_more, counted_end}
+use mathlib.Core.List.{List}
+use Rattle.graph.specs.Model.{Link}
+use Rattle.format.specs.Writer.{rates_from}
+use Rattle.writer.proofs.Links.{links_few, links_count, links_none}
+use Rattle.writer.proofs.Whole.{links_fit}
 use Rattle.writer.proofs.entries_of.Goals as goal
 
-pub loop-i-init : goal.loop-i-init
-loop-i-init c =
-    let e : length c.args.channels ≡ 64 = search rules in
-    (omega arith, counted_start _ _ (omega arith) c.requires.1)
+pub overflow_add-total-in-loop-c : goal.overflow_add-total-in-loop-c
+overflow_add-total-in-loop-c c =
+    let n = links_count c.channels-channels.result.now (links_fit _ _ c.channels-channels.ensures.formed) c.loop-c.c-index (omega arith) in
+    omega (arith, links_few 0 c.channels-channels.result.now (links_fit _ _ c.channels-channels.ensures.formed))
 
-pub overflow_add-total : goal.overflow_add-total
-overflow_add-total c =
-    let f = counted_fits _ _ c.loop-i.invariant.1 (omega arith) in
+pub overflow_add-total-in-loop-c-3 : goal.overflow_add-total-in-loop-c-3
+overflow_add-total-in-loop-c-3 c =
+    let n = links_count c.channels-channels.result.now (links_fit _ _ c.channels-channels.ensures.formed) c.loop-c.c-index (omega arith) in
+    omega (arith, links_few 0 c.channels-channels.result.now (links_fit _ _ c.channels-channels.ensures.formed))
+
+pub loop-c-preserved : goal.loop-c-preserved
+loop-c-preserved c =
+    let n = links_count c.channels-channels.result.now (links_fit _ _ c.channels-channels.ensures.formed) c.loop-c.c-index (omega arith) in
     omega arith
-
-pub overflow_add-total-in-loop-i : goal.overflow_add-total-in-loop-i
-overflow_add-total-in-loop-i c =
-    let f = counted_fits _ _ c.loop-i.invariant.1 (omega arith) in
-    omega arith
-
-pub overflow_add-total-in-loop-i-2 : goal.overflow_add-total-in-loop-i-2
-overflow_add-total-in-loop-i-2 c =
-    let f = counted_fits _ _ c.loop-i.invariant.1 (omega arith) in
-    omega arith
-
-pub overflow_add-total-in-loop-i-3 : goal.overflow_add-total-in-loop-i-3
-overflow_add-total-in-loop-i-3 c =
-    let f = counted_fits _ _ c.loop-i.invariant.1 (omega arith) in
-    omega arith
-
-pub loop-i-preserved : goal.loop-i-preserved
-loop-i-preserved c = (omega arith, counted_more _ _ c.loop-i.invariant.1 (omega arith))
 
 pub returns : goal.returns
-returns c = counted_end _ _ c.loop-i.invariant.1 (omega arith)
+returns c =
+    let e = ap (λ (l : List Link). length (rates_from 0 l)) c.channels-channels.ensures.list in
+    omega (arith, ap length (links_none c.channels-channels.result.now c.loop-c.c-index (omega arith)))

@@ -1,10 +1,7 @@
--- What the loop of `writer::entries_of` keeps, and what falls. Assumes nothing.
-use Prim.Native.Nat.{◌-◌, ◌≤◌}
-use Rattle.writer.proofs.Links.{Counted}
+-- What the loop of `writer::entries_of` keeps: the entries from this channel on are not counted yet. Assumes nothing.
+use Rattle.std.proofs.Common.{◌≡◌, ◌+◌, length}
+use Rattle.writer.proofs.Links.{links_from}
 use Rattle.writer.proofs.entries_of.Given as goal
 
-abbrev pub invariant-loop-i : goal.invariant-loop-i
-invariant-loop-i l = (l.n ≤ 64) × Counted l.channels l.n l.total l.i
-
-abbrev pub decreases-loop-i : goal.decreases-loop-i
-decreases-loop-i l = l.n - l.i
+abbrev pub invariant-loop-c : goal.invariant-loop-c
+invariant-loop-c l = l.total + length (links_from l.channels l.c-index) ≡ length (links_from l.channels 0)

@@ -1,35 +1,30 @@
 -- `writer::length_of` meets its contract: the length of each sort. Assumes nothing.
 use native.Mathlib.Omega.{arith}
-use Rattle.writer.proofs.Whole.{parts_of, bytes_are, length_small}
+use mathlib.Core.Path.{ap}
+use lib.ListN.{length, length-map}
+use Rattle.graph.specs.Memory.{view_link}
+use Rattle.format.proofs.Size.{bytes_length}
+use Rattle.writer.proofs.Whole.{file_long}
 use Rattle.writer.proofs.length_of.Goals as goal
 
-pub entries_of-entries-requires : goal.entries_of-entries-requires
-entries_of-entries-requires c =
-    let p = parts_of c.args.g c.requires in
-    (p.channels, p.fit)
-
-pub overflow_mul-result : goal.overflow_mul-result
-overflow_mul-result c = omega (arith, length_small c.args.g c.requires)
-
-pub overflow_mul-result-2 : goal.overflow_mul-result-2
-overflow_mul-result-2 c = omega (arith, length_small c.args.g c.requires)
-
-pub overflow_add-result : goal.overflow_add-result
-overflow_add-result c = omega (arith, length_small c.args.g c.requires)
-
 pub overflow_mul-result-3 : goal.overflow_mul-result-3
-overflow_mul-result-3 c = omega (arith, length_small c.args.g c.requires)
+overflow_mul-result-3 c =
+    let l = file_long c.args.graph.now in
+    omega (arith, bytes_length c.args.graph.now c.tasks.ensures.formed)
 
 pub overflow_add-result-2 : goal.overflow_add-result-2
-overflow_add-result-2 c = omega (arith, length_small c.args.g c.requires)
-
-pub overflow_mul-result-4 : goal.overflow_mul-result-4
-overflow_mul-result-4 c = omega (arith, length_small c.args.g c.requires)
+overflow_add-result-2 c =
+    let l = file_long c.args.graph.now in
+    omega (arith, bytes_length c.args.graph.now c.tasks.ensures.formed)
 
 pub overflow_add-result-3 : goal.overflow_add-result-3
-overflow_add-result-3 c = omega (arith, length_small c.args.g c.requires)
+overflow_add-result-3 c =
+    let l = file_long c.args.graph.now in
+    omega (arith, bytes_length c.args.graph.now c.tasks.ensures.formed)
 
 pub returns : goal.returns
 returns c =
-    let g = c.args.g in
-    omega (arith, bytes_are g (parts_of g c.requires))
+    let ts = ap length c.tasks.ensures.list in
+    let cs = ap length c.channels.ensures.list in
+    let rs = ap length c.relations.ensures.list in
+    omega (arith, file_long c.args.graph.now, length-map c.channels.result.now view_link)

@@ -1,38 +1,44 @@
 -- `writer::put_graph` meets its contract: sort by sort. Assumes nothing.
-use native.Mathlib.Omega.{arith}
-use mathlib.Core.Path.{sym}
-use Rattle.output.proofs.Output.{puts_then, puts_same}
-use Rattle.writer.proofs.Whole.{parts_of, bytes_are, file_parts}
+use mathlib.Core.Path.{refl}
+use Rattle.output.proofs.Parts.{Left, left_start, left_room, left_more, left_none}
+use Rattle.writer.proofs.Whole.{tasks_then, heads_then, rates_then, relations_then}
 use Rattle.writer.proofs.put_graph.Goals as goal
 
-pub put_tasks-a-requires : goal.put_tasks-a-requires
-put_tasks-a-requires c =
-    let g = c.args.g in
-    let p = parts_of g c.requires.0 in
-    (p.tasks, omega (arith, bytes_are g p))
+pub put_all-requires : goal.put_all-requires
+put_all-requires c =
+    let g = c.args.graph.now in
+    let l : Left c.args.to.now _ _ _ = left_start c.requires in
+    left_room l (tasks_then g c.tasks.ensures.list)
 
-pub put_channels-b-requires : goal.put_channels-b-requires
-put_channels-b-requires c =
-    let g = c.args.g in
-    let p = parts_of g c.requires.0 in
-    (p.channels, omega (arith, bytes_are g p))
+pub put_all-requires-2 : goal.put_all-requires-2
+put_all-requires-2 c =
+    let g = c.args.graph.now in
+    let l : Left c.args.to.now _ _ _ = left_start c.requires in
+    let m = left_more l (tasks_then g c.tasks.ensures.list) c.put_all.ensures in
+    left_room m (heads_then g _ c.channels.ensures.list)
 
-pub put_links-c-requires : goal.put_links-c-requires
-put_links-c-requires c =
-    let g = c.args.g in
-    let p = parts_of g c.requires.0 in
-    (p.channels, (p.fit, omega (arith, bytes_are g p)))
+pub put_links-requires : goal.put_links-requires
+put_links-requires c =
+    let g = c.args.graph.now in
+    let l : Left c.args.to.now _ _ _ = left_start c.requires in
+    let m = left_more l (tasks_then g c.tasks.ensures.list) c.put_all.ensures in
+    let n = left_more m (heads_then g _ c.channels.ensures.list) c.put_all-2.ensures in
+    left_room n (rates_then g)
 
-pub put_relations-requires : goal.put_relations-requires
-put_relations-requires c =
-    let g = c.args.g in
-    let p = parts_of g c.requires.0 in
-    (p.relations, omega (arith, bytes_are g p))
+pub put_all-requires-3 : goal.put_all-requires-3
+put_all-requires-3 c =
+    let g = c.args.graph.now in
+    let l : Left c.args.to.now _ _ _ = left_start c.requires in
+    let m = left_more l (tasks_then g c.tasks.ensures.list) c.put_all.ensures in
+    let n = left_more m (heads_then g _ c.channels.ensures.list) c.put_all-2.ensures in
+    let o = left_more n (rates_then g) c.put_links.ensures in
+    left_room o (relations_then g c.relations.ensures.list)
 
 pub returns : goal.returns
 returns c =
-    puts_same (sym (file_parts c.args.g))
-    (puts_then c.put_tasks-a.ensures
-    (puts_then c.put_channels-b.ensures
-    (puts_then c.put_links-c.ensures
-    c.put_relations.ensures)))
+    let g = c.args.graph.now in
+    let l : Left c.args.to.now _ _ _ = left_start c.requires in
+    let m = left_more l (tasks_then g c.tasks.ensures.list) c.put_all.ensures in
+    let n = left_more m (heads_then g _ c.channels.ensures.list) c.put_all-2.ensures in
+    let o = left_more n (rates_then g) c.put_links.ensures in
+    left_none (left_more o (relations_then g c.relations.ensures.list) c.put_all-3.ensures) refl

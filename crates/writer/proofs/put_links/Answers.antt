@@ -1,22 +1,29 @@
 -- `writer::put_links` meets its contract: channel by channel. Assumes nothing.
-use borrow.Author.Rules.{rules}
 use native.Mathlib.Omega.{arith}
-use mathlib.Core.Path.{◌≡◌}
+use mathlib.Core.Path.{ap, sym, subst}
+use mathlib.Core.List.{List}
 use lib.ListN.{length}
-use Rattle.writer.proofs.Links.{linked_start, linked_fits, linked_room, linked_more, linked_end}
+use Rattle.graph.specs.Model.{Link}
+use Rattle.format.specs.Record.{encodes}
+use Rattle.format.specs.Writer.{rates_from}
+use Rattle.output.specs.Cursor.{HasRoom}
+use Rattle.output.proofs.Parts.{left_start, left_room, left_more, left_none, wrote_same}
+use Rattle.writer.proofs.Links.{links_then, links_none}
 use Rattle.writer.proofs.put_links.Goals as goal
 
 pub loop-i-init : goal.loop-i-init
 loop-i-init c =
-    let e : length c.args.channels ≡ 64 = search rules in
-    (omega arith, linked_start _ _ _ _ (omega arith) c.requires.1.0 (omega arith))
+    left_start
+    (subst (λ (cs : List Link). HasRoom c.args.to.now (length (encodes (rates_from 0 cs)))) (sym c.channels-channels.ensures.list) c.requires)
 
-pub put_link-next-requires : goal.put_link-next-requires
-put_link-next-requires c =
-    (linked_fits _ _ _ _ _ c.loop-i.invariant.1 (omega arith), linked_room _ _ _ _ _ c.loop-i.invariant.1 (omega arith))
+pub put_link-requires-clause-room : goal.put_link-requires-clause-room
+put_link-requires-clause-room c = left_room c.loop-i.invariant (links_then c.channels-channels.result.now c.loop-i.i _ (omega arith))
 
 pub loop-i-preserved : goal.loop-i-preserved
-loop-i-preserved c = (omega arith, linked_more _ _ _ _ _ c.loop-i.invariant.1 (omega arith) c.put_link-next.ensures)
+loop-i-preserved c = left_more c.loop-i.invariant (links_then c.channels-channels.result.now c.loop-i.i _ (omega arith)) c.put_link.ensures
 
 pub returns : goal.returns
-returns c = linked_end _ _ _ _ c.loop-i.invariant.1 (omega arith)
+unfolding encodes
+returns c =
+    wrote_same (ap (λ (cs : List Link). encodes (rates_from 0 cs)) c.channels-channels.ensures.list)
+    (left_none c.loop-i.invariant (ap encodes (links_none c.channels-channels.result.now c.loop-i.i (omega arith))))

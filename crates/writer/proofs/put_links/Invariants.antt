@@ -1,10 +1,8 @@
--- What the loop of `writer::put_links` keeps, and what falls. Assumes nothing.
-use Prim.Native.Nat.{◌-◌, ◌≤◌}
-use Rattle.writer.proofs.Links.{Linked}
+-- What the loop of `writer::put_links` keeps: the records from this channel on are left. Assumes nothing.
+use Rattle.format.specs.Record.{encodes}
+use Rattle.output.proofs.Parts.{Left}
+use Rattle.writer.proofs.Links.{links_from}
 use Rattle.writer.proofs.put_links.Given as goal
 
 abbrev pub invariant-loop-i : goal.invariant-loop-i
-invariant-loop-i l = (l.n ≤ 64) × Linked l.channels l.n l.initial.out l.at l.out l.next l.i
-
-abbrev pub decreases-loop-i : goal.decreases-loop-i
-decreases-loop-i l = l.n - l.i
+invariant-loop-i l = Left l.initial.to (encodes (links_from l.channels 0)) l.to (encodes (links_from l.channels l.i))

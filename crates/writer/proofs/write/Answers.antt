@@ -1,26 +1,26 @@
 -- `writer::write` meets its contract: by the test of the graph and the length of the output. Assumes nothing.
 use native.Mathlib.Omega.{arith}
-use Rattle.formed.specs.Formed.{WellFormed}
+use borrow.Author.Rules.{rules}
+use mathlib.Core.Path.{◌≡◌, ap, ◌∙◌}
+use lib.ListN.{length}
+use Rattle.graph.specs.Memory.{view}
+use Rattle.format.specs.Writer.{bytes}
+use Rattle.output.specs.Output.{put}
 use Rattle.writer.proofs.Writing.{writes_none, writes_short, writes_file}
-use Rattle.writer.proofs.write.Goals.{Else-not-formed}
 use Rattle.writer.proofs.write.Goals as goal
 
-pub returns-then-not-formed : goal.returns-then-not-formed
-returns-then-not-formed c = writes_none _ _ (c.formed.ensures.no c.if-not-formed.true)
-
--- where the test holds
-well : (c : Else-not-formed) → WellFormed c.args.graph
-well c = c.formed.ensures.yes c.if-not-formed.false
-
-pub length_of-needed-requires : goal.length_of-needed-requires
-length_of-needed-requires c = well c
+pub returns-in_default : goal.returns-in_default
+returns-in_default c = writes_none _ _ c.in_default.ensures
 
 pub returns-then-out-needed : goal.returns-then-out-needed
 returns-then-out-needed c =
-    writes_short _ _ _ (well ((goal.at.returns-then-out-needed c).Else-not-formed)) c.length_of-needed.ensures (omega arith)
-
-pub put_graph-requires : goal.put_graph-requires
-put_graph-requires c = (well ((goal.at.put_graph-requires c).Else-not-formed), omega (arith, c.length_of-needed.ensures))
+    writes_short _ _ _ c.in-Some.ensures.0
+    (c.length_of-needed.ensures ∙ ap (λ m. length (bytes m)) c.in-Some.ensures.1)
+    (omega arith)
 
 pub returns : goal.returns
-returns c = writes_file _ _ _ _ (well ((goal.at.returns c).Else-not-formed)) c.put_graph.ensures
+returns c =
+    let n = ap (λ m. length (bytes m)) c.in-Some.ensures.1 in
+    let e : c.put_graph.new.to.out.now ≡ put c.args.out.now 0 (bytes (view c.args.graph.now)) =
+    c.put_graph.ensures.bytes ∙ (λ i. put (c.new.ensures.same_bytes i) (c.new.ensures.front i) (bytes (c.in-Some.ensures.1 i))) in
+    writes_file _ _ _ c.in-Some.ensures.0 (omega arith) (search rules)
