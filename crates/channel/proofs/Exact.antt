@@ -135,7 +135,7 @@ module _ (ch : Channel) (okp : Sound ch.producer) (okc : Sound ch.consumer) wher
       let r = stays_unbroken ok c b.puts_below b.takes_below b.moment in
       ⊎_elim (λ l. omega arith) (λ l. omega arith) b.broken
 
-  -- demand 2: the tests are exact
+  -- the tests are exact
   pub exact : Passes ch ↔ ((c : Choice ch) → ¬ Breaks ch c)
   exact = (
     passes_unbroken,

@@ -1,4 +1,4 @@
--- A quicker way to decide the jobs past both prefixes, no part of the law: a few cases, one for each pair of a place in the taker's cycle and a place in the giver's. `cases_decide` (proofs/Cases) says that they decide. Assumes nothing.
+-- A quicker way to decide the jobs past both prefixes, no part of the rules: a few cases, one for each pair of a place in the taker's cycle and a place in the giver's. `cases_decide` (proofs/Cases) says that they decide. Assumes nothing.
 use Rattle.std.specs.Prelude.{ℕ, suc, ◌+◌, ◌*◌, ◌-◌, ◌/◌, ◌%◌, ◌≤◌, ◌<◌, length}
 use Rattle.channel.specs.Side.{Side, release, end, total, turn, span}
 

@@ -1,4 +1,4 @@
--- A quicker way to find the first short job, no part of the law: the taker's jobs between two ends of the giver are tested together. `says_fast` (proofs/Fast) says that it finds what is true of all jobs. Assumes nothing.
+-- A quicker way to find the first short job, no part of the rules: the taker's jobs between two ends of the giver are tested together. `says_fast` (proofs/Fast) says that it finds what is true of all jobs. Assumes nothing.
 use Rattle.std.specs.Prelude.{Bool, Option, Some, None, cond, ◌&&◌, ℕ, zero, suc, ◌+◌, ◌*◌, ◌-◌, ◌/◌, ◌%◌, min, max, leb, ltb, length}
 use Rattle.numbers.specs.Numbers.{ceil, least}
 use Rattle.numbers.specs.Lists.{First}

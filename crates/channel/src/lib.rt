@@ -1,7 +1,7 @@
 // What a channel is judged to be; the definitions and theorems of the rule stand in specs/ and proofs/.
 #![tactic(auto)]
 
-// What befalls a channel, with the first broken job in the last two.
+// What is wrong with a channel; the last two name the first broken job.
 #[derive(Clone, Copy, PartialEq, Eq)]
 pub enum Fault {
     InitialAboveSize,

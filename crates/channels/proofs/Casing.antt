@@ -15,6 +15,7 @@ use Rattle.channel.specs.Stretches.{short_at, short_case, some_below}
 use Rattle.channel.proofs.Fast.{yes_some, no_some}
 use Rattle.channel.proofs.Totals.{total_bound}
 use Rattle.channels.specs.Sides.{Limited}
+use Rattle.channels.specs.Tables.{most_sum, latest}
 use Rattle.graph.specs.Model.{max_cycle, million}
 
 pub span_most : (s : Side) → Limited s → span s ≤ 32_000_000
@@ -26,8 +27,8 @@ span_most s ok = omega (arith, mul-le-mul {n₁ = s.period} {n₂ = 1_000_000} {
 pub record Row (step tick wants : ℕ) : Type 0 where
   pub some_step : 1 ≤ step
   pub step_most : step ≤ max_cycle * million
-  pub tick_most : tick ≤ 49 * million
-  pub wants_most : wants ≤ 5_000_000
+  pub tick_most : tick ≤ latest
+  pub wants_most : wants ≤ most_sum
 
 -- the first i places of the giver's cycle are tested; `end` is the next one's end, and `rest` what is left of it modulo the step
 pub record Rowed (g : Side) (stock step tick wants end rest i : ℕ) : Type 0 where
@@ -51,9 +52,6 @@ pub record Tested (g : Side) (stock step tick wants end rest i has : ℕ) : Type
       → short_at step g stock tick wants i ≡ false
 
 module _ (g : Side) (stock step tick wants : ℕ) (ok : Row step tick wants) where
-  pub row_start : Rowed g stock step tick wants (side.end g (length g.prefix)) ((side.end g (length g.prefix) + (step - 1 - tick % step)) % step) 0
-  row_start = record { ends = omega arith; leaves = refl; none = λ b h. absurd (omega arith) }
-
   module _ (end rest i : ℕ) (now : Rowed g stock step tick wants end rest i) where
     rest_small : rest < step
     rest_small = omega (arith, now.leaves, mod-lt (end + (step - 1 - tick % step)) {m = step} ok.some_step)
@@ -92,7 +90,7 @@ module _ (g : Side) (stock step tick wants : ℕ) (ok : Row step tick wants) whe
           record {
             has_small = small;
             has_fits = mul-le-mul {n₁ = stock + has} {m₁ = span g} {n₂ = 4_300_000_000} {m₂ = 32_000_000} small (span_most g limited);
-            wants_fits = mul-le-mul {n₁ = wants} {m₁ = span g} {n₂ = 5_000_000} {m₂ = 32_000_000} ok.wants_most (span_most g limited);
+            wants_fits = mul-le-mul {n₁ = wants} {m₁ = span g} {n₂ = 5_000_000} {m₂ = 32_000_000} (omega (arith, ok.wants_most)) (span_most g limited);
             time_fits =
                 mul-le-mul {n₁ = turn g} {m₁ = tick + (rest + 1)} {n₂ = 2_097_120} {m₂ = 81_000_000} turn_most
                 (omega (arith, ok.tick_most, rest_small, ok.step_most));
@@ -143,7 +141,7 @@ module _ (t g : Side) (stock step : ℕ) (tick i : ℕ) (now : Ranked t g stock 
           limited.offset_most,
         )
 
-    pub wants_small : wants ≤ 5_000_000
+    pub wants_small : wants ≤ most_sum
     wants_small = omega (arith, is, place_few, total_bound t 65535 few (length t.prefix + 1 + i))
 
   module _ (wants : ℕ) (is : wants ≡ total t (length t.prefix + 1 + i)) where

@@ -4,7 +4,6 @@ use mathlib.Core.Bool.{Bool, false}
 use Prim.Native.Nat.{ℕ, ◌*◌, ◌≤◌}
 use native.Mathlib.Nat.{mul-le-mul, mul-pos}
 use native.Mathlib.Omega.{arith}
-use lib.ListN.{length}
 use Rattle.numbers.proofs.Sums.{cases}
 use Rattle.channel.specs.Side.{Side, span, first, jobs}
 use Rattle.channel.specs.Cases.{step}
@@ -14,14 +13,14 @@ use Rattle.channel.proofs.Common.{Common, lcm_common, common_most}
 use Rattle.channel.proofs.Cases.{cases_decide}
 use Rattle.channel.proofs.Fast.{cases_no}
 use Rattle.channels.specs.Sides.{Limited}
-use Rattle.channels.specs.Answers.{Reaches, Repeats}
+use Rattle.channels.specs.Answers.{Reaches, ComesRound}
 use Rattle.channels.proofs.Tables.{sound}
 use Rattle.channels.proofs.Casing.{span_most}
 
 pub span_some : (s : Side) → Limited s → 1 ≤ span s
 span_some s ok = mul-pos (omega arith) ok.some_rate
 
-module _ (t g : Side) (taker : Limited t) (giver : Limited g) (L : ℕ) (ok : Repeats t g L) where
+module _ (t g : Side) (taker : Limited t) (giver : Limited g) (L : ℕ) (ok : ComesRound t g L) where
   few : jobs L t g ≤ 2_179_666
   few = jobs_few t g (sound taker) (sound giver) L ok.least.positive ok.least.right giver.offset_most taker.prefix_most giver.prefix_most ok.length_most
 
@@ -36,9 +35,6 @@ module _ (t g : Side) (taker : Limited t) (giver : Limited g) (L : ℕ) (ok : Re
 
   pub step_most : step L t g ≤ 32_000_000
   step_most = omega (arith, common_most (span t) (span g) (step L t g) (span_some t taker) common, span_most t taker)
-
-  pub cases_few : length t.cycle * length g.cycle ≤ 1024
-  cases_few = mul-le-mul {n₁ = length t.cycle} {m₁ = length g.cycle} {n₂ = 32} {m₂ = 32} taker.cycle_most giver.cycle_most
 
   -- all that decide
   pub reach_all : (stock n : ℕ) → n ≡ jobs L t g → Reaches t g stock n

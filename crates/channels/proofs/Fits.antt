@@ -3,7 +3,7 @@ use Prim.Native.Nat.{ℕ, ◌*◌, ◌≤◌}
 use native.Mathlib.Nat.{mul-le-mul}
 use native.Mathlib.Omega.{arith}
 
--- a turn of at most 32 entries × a length of at most 32 × a period of at most a million
+-- a turn of at most 32 entries × a length of at most 32 × a period of at most a million: the products of the test of balance fit 64 bits, so it compares whole numbers
 pub turn_times_length : (t n : ℕ) → t ≤ 65535 * 32 → n ≤ 32 → t * n ≤ 67_107_840
 turn_times_length t n a b = omega (arith, mul-le-mul {n₁ = t} {n₂ = 2_097_120} {m₂ = 32} (omega arith) b)
 

@@ -1,14 +1,14 @@
 -- A turn of the search for the taker's first short job goes by a stretch. Assumes nothing.
-use mathlib.Core.Path.{◌≡◌, refl, sym, ap, ◌∙◌}
+use mathlib.Core.Path.{◌≡◌, sym, ap, ◌∙◌}
 use Prim.Native.Nat.{ℕ, suc, ◌+◌, ◌*◌, ◌-◌, ◌/◌, ◌≤◌, ◌<◌}
-use native.Mathlib.Nat.{mul-le-mul, mul-le-mul_right, le-div_iff_mul-le, add-mul-div_right}
+use native.Mathlib.Nat.{mul-le-mul, le-div_iff_mul-le, add-mul-div_right}
 use native.Mathlib.Omega.{arith}
 use Rattle.numbers.specs.Numbers.{ceil}
 use Rattle.numbers.specs.Lists.{First}
 use Rattle.numbers.proofs.Sums.{cases}
 use Rattle.channel.specs.Side.{Side, release, end, total, ended, Short}
-use Rattle.channel.specs.Stretches.{released, beyond}
-use Rattle.channel.proofs.Jobs.{ended_closed, ended_iff, ended_few, ended_mono, release_late, release_mono}
+use Rattle.channel.specs.Stretches.{beyond}
+use Rattle.channel.proofs.Jobs.{ended_closed, ended_iff, ended_few, ended_mono, release_mono}
 use Rattle.channel.proofs.Stretches.{released_iff, goes_on, short_in, stretch}
 use Rattle.channels.specs.Sides.{Limited}
 use Rattle.channels.specs.Tables.{Above}
@@ -89,11 +89,6 @@ module _ (t g : Side) (jobs : ℕ) (ok : Searchable t g jobs) (k : ℕ) (less : 
       is_beyond : n ≡ beyond t g k
       is_beyond = en ∙ next_is
 
-      pub next_most : n ≤ 2_179_670_000_000
-      next_most =
-          cases n (end g q) (λ h. omega (arith, end_most))
-          (λ h. omega (arith, (released_iff t (sound ok.taker) (end g q) (end g q)).0 (omega (arith, is_beyond, ap (λ x. released t (end g x)) is_ended)), release_late t (sound ok.taker) (end g q)))
-
       pub next_later : k < n
       next_later = omega (arith, is_beyond, goes_on t g (sound ok.taker) (sound ok.giver) k)
 
@@ -146,11 +141,6 @@ module _ (t g : Side) (jobs : ℕ) (ok : Searchable t g jobs) (k : ℕ) (less : 
           ap (λ x. passed_of x g.period (release t k)) from,
           passed_on (g.offset + g.window) g.period ended (release t k) (omega (arith, ok.giver.some_tick, ok.giver.fits)) s.known,
         )
-
-    pub next_most_known : next ≤ 2_179_670_000_000
-    next_most_known =
-        let q : ℕ = passed_of (g.offset + g.window) g.period (release t k) in
-        omega (arith, s.ends, mul-le-mul_right g.period s.known, end_most q refl)
 
   module _ (q : ℕ) (eq : q ≡ passed_of (g.offset + g.window) g.period (release t k)) where
     pub counted_next : (m : ℕ) → m ≡ passed_of (release t k + t.period) t.period (end g q - 1) → k + 1 + m ≡ passed_of t.offset t.period (end g q - 1)

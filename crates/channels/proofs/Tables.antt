@@ -15,8 +15,8 @@ use Rattle.graph.proofs.Rates.{in_cycle, rate_is, place_first_turn}
 use Rattle.channel.specs.Side.{Side, Sound, total, turn}
 use Rattle.channel.proofs.Totals.{total_mono, total_bound, rate_cycle, turns, total_folded}
 use Rattle.channels.specs.Sides.{Limited}
-use Rattle.channels.specs.Tables.{Listed, Tabled, Above}
-use Rattle.channels.specs.Party.{side_of, Kept}
+use Rattle.channels.specs.Tables.{Listed, Tabled}
+use Rattle.channels.specs.Party.{side_of, Equipped}
 use Rattle.channels.specs.declared.Party.TheInside.{Inside}
 
 module _ (prefix cycle : List ℕ) where
@@ -103,12 +103,12 @@ pub record Known (p : Inside) (s : Side) : Type 0 where
   pub limited : Limited s
   pub tabled : Tabled s.prefix s.cycle p.sums
 
-pub known : {p : Inside} {s : Side} → side_of p ≡ s → Kept p → Known p s
+pub known : {p : Inside} {s : Side} → side_of p ≡ s → Equipped p → Known p s
 known {p} e k =
     subst (Known p) e
     record { period = refl; prefix = refl; cycle = refl; limited = k.limited; tabled = k.tabled }
 
-module _ {p : Inside} (k : Kept p) where
+module _ {p : Inside} (k : Equipped p) where
   abbrev s : Side
   s = side_of p
 
@@ -179,28 +179,7 @@ module _ (s : Side) (have from to : ℕ) where
     pub none : (j : ℕ) → from ≤ j → j < low → total s (suc j) ≤ have
     pub above : have < total s (suc high)
 
-  pub halved_start : from < to → have < total s to → Halved from (to - 1)
-  halved_start h l =
-      let e : suc (to - 1) ≡ to = omega arith in
-      record {
-        starts = omega arith;
-        order = omega arith;
-        ends = omega arith;
-        none = λ j a b. absurd (omega arith);
-        above = rw e l;
-      }
-
   module _ (low high : ℕ) (now : Halved low high) (mid : ℕ) (a : low ≤ mid) (b : mid < high) where
-    pub halved_high : have < total s (mid + 1) → Halved low mid
-    halved_high h =
-        record {
-          starts = now.starts;
-          order = a;
-          ends = omega (arith, now.ends);
-          none = now.none;
-          above = omega (arith, ap (total s) (add-one mid));
-        }
-
     pub halved_low : total s (mid + 1) ≤ have → Halved (mid + 1) high
     halved_low h =
         record {
@@ -210,13 +189,3 @@ module _ (s : Side) (have from to : ℕ) where
           none = λ j f l. omega (arith, total_mono s (suc j) (mid + 1) (omega arith));
           above = now.above;
         }
-
-  pub halved_done : (low high : ℕ) → Halved low high → high ≤ low → Above s have from to low
-  halved_done low high now h =
-      let e : high ≡ low = omega (arith, now.order) in
-      record {
-        behind = now.starts;
-        before = omega (arith, now.ends);
-        above = subst (λ x. have < total s (suc x)) e now.above;
-        none = now.none;
-      }

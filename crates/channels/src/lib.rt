@@ -7,16 +7,16 @@ ghost use Rattle.graph.specs.Memory.{view_rates};
 ghost use Rattle.channel.specs.Side.{total, turn, span, release, end, first};
 ghost use Rattle.channel.specs.Channel.{Balanced};
 ghost use Rattle.channel.specs.Judge.{Means};
-ghost use Rattle.channel.specs.Stretches.{short_at, some_below, some_case};
+ghost use Rattle.channel.specs.Stretches.{Says, short_at, some_below, some_case};
 ghost use Rattle.channels.specs.Sides.{side, joined_of, joined_at, Timed, Rated, Ready};
-ghost use Rattle.channels.specs.Tables.{Listed, Tabled, Above, far};
-ghost use Rattle.channels.specs.Answers.{Spans, Divisor, Measured, passed_of, Finds, most_jobs, Repeats, Reaches, Decides};
+ghost use Rattle.channels.specs.Tables.{Listed, Tabled, Above, most_rate, most_sum, latest, most_first, far};
+ghost use Rattle.channels.specs.Answers.{Spans, Divisor, Measured, passed_of, SaysBelow, most_jobs, ComesRound, Reaches};
 
 use channel::{Fault, Verdict};
 use graph::{Channel, Graph, Task, rate_at};
 use std::marker::Model;
 
-// What the table of a party has: the total of no job, and of each in prefix and cycle.
+// The length of a party's table: one total for no job, and one for each entry of prefix and cycle.
 const PLACES: usize = Graph::PREFIX + Graph::CYCLE + 1;
 
 // One party to a channel, producer or consumer: when its jobs are released, how long their windows are, and what they move.
@@ -36,11 +36,11 @@ impl<'a> Model for Party<'a> {
 
     ghost Value = { Side };
 
-    ghost use Rattle.channels.specs.Party.{side_of, Kept};
+    ghost use Rattle.channels.specs.Party.{side_of, Equipped};
 
     ghost view = { side_of };
 
-    ghost invariant = { Kept };
+    ghost invariant = { Equipped };
 }
 
 // What the first jobs of a side move, up to prefix and one turn of the cycle.
@@ -49,7 +49,8 @@ fn totals(prefix: &[u16], cycle: &[u16]) -> [u64; PLACES]
     ensures { Tabled prefix.now cycle.now result }
 {
     let mut sums = [0; PLACES];
-    let mut sum: u64 = 0;
+    let mut sum = 0;
+    // Kept: by place. The chained lists prove, but the longest file takes 4 % longer, and the rules' own lookup would have no caller.
     for job in 0..prefix.len() + cycle.len() {
         sum += u64::from(rate_at(prefix, cycle, job as u64));
         sums[job + 1] = sum;
@@ -118,7 +119,7 @@ impl<'a> Party<'a> {
     // What one turn of the cycle moves.
     fn turn(&self) -> u64
         ensures is { result ≡ turn self.now }
-        ensures most { result ≤ 65535 * max_cycle }
+        ensures most { result ≤ most_rate * max_cycle }
     {
         let plen = self.prefix.len();
         self.sums[plen + self.cycle.len()] - self.sums[plen]
@@ -128,7 +129,7 @@ impl<'a> Party<'a> {
     fn total(&self, m: u64) -> u64
         requires { m ≤ far }
         ensures is { result ≡ total self.now m }
-        ensures most { result ≤ 65535 * m }
+        ensures most { result ≤ most_rate * m }
     {
         let plen = self.prefix.len();
         let all = plen + self.cycle.len();
@@ -142,6 +143,7 @@ impl<'a> Party<'a> {
     }
 
     // The first job from `from` on with which the total is above `have`, where it is with the last before `to`: by halves.
+    // Kept: a search by hand, since totals go on past the table and no slice holds them.
     fn first_above(&self, have: u64, from: u64, to: u64) -> u64
         requires order { from < to }
         requires near { to ≤ far }
@@ -162,13 +164,15 @@ impl<'a> Party<'a> {
     }
 
     // The first of this taker's jobs below `jobs` that is short. A turn goes by a stretch: the jobs before the giver's next end, of which the last one lacks most.
+    // Kept: taker, giver and stock as parameters, here and below. In a struct each contract says `self.now.taker.now` for `self.now`, and the rules' own `Short taker giver stock k` takes them so.
     fn first_short(&self, giver: &Party, stock: u32, jobs: u64) -> Option<u64>
         requires { jobs ≤ most_jobs }
-        ensures { Finds self.now giver.now stock jobs result }
+        ensures { SaysBelow self.now giver.now stock jobs result }
     {
         let mut end = giver.end(0);
-        let mut ended: u64 = 0;
-        let mut k: u64 = 0;
+        let mut ended = 0;
+        let mut k = 0;
+        // Kept: a `while`, since a step is as long as its stretch.
         while k < jobs {
             let release = self.release(k);
             let more = giver.passed(end, release);
@@ -184,13 +188,13 @@ impl<'a> Party<'a> {
         None
     }
 
-    // A job of the taker, by its release and what is wanted with it, against each place in this giver's cycle: what there is and what is wanted, by whole products, and the times by what the giver moves in them.
-    // What is left of the giver's end modulo the step is kept running.
+    // Whether some place of this giver's cycle makes the case short. The taker's job is given by its release and by what the jobs up to it want; both sides are multiplied by the giver's span, so all is whole.
+    // `rest` is the end modulo the step, kept by addition.
     fn row_short(&self, stock: u32, step: u64, tick: u64, wants: u64) -> bool
         requires some_step { 1 ≤ step }
         requires step_most { step ≤ max_cycle * million }
-        requires tick_most { tick ≤ 49 * million }
-        requires wants_most { wants ≤ 5_000_000 }
+        requires tick_most { tick ≤ latest }
+        requires wants_most { wants ≤ most_sum }
         ensures { result ≡ some_below (short_at step self.now stock tick wants) (length self.now.cycle) }
     {
         let plen = self.prefix.len();
@@ -233,16 +237,16 @@ impl<'a> Party<'a> {
     // From this job of the taker on, both are past their prefixes.
     fn first(&self, giver: &Party) -> u64
         ensures is { result ≡ first self.now giver.now }
-        ensures most { result ≤ 18_000_001 }
+        ensures most { result ≤ most_first }
     {
         let end = giver.end(giver.prefix.len() as u64);
         let wait = end.saturating_sub(self.offset);
         (self.prefix.len() as u64).max(wait / self.period + 1)
     }
 
-    // How many of this taker's jobs have to be searched: if a case is short, or there are far fewer jobs than cases, all that decide; otherwise those before both are past their prefixes.
+    // How many of the taker's jobs to search. If a case is short, or the jobs are far fewer than the cases: all that decide. Otherwise those before both are past their prefixes.
     fn reach(&self, giver: &Party, stock: u32, length: u64) -> u64
-        requires { Repeats self.now giver.now length }
+        requires { ComesRound self.now giver.now length }
         ensures { Reaches self.now giver.now stock result }
     {
         let first = self.first(giver);
@@ -261,8 +265,8 @@ impl<'a> Party<'a> {
 
     // The first of this taker's jobs that is short, of all jobs without end.
     fn decide(&self, giver: &Party, stock: u32, length: u64) -> Option<u64>
-        requires { Repeats self.now giver.now length }
-        ensures { Decides self.now giver.now stock result }
+        requires { ComesRound self.now giver.now length }
+        ensures { Says self.now giver.now stock result }
     {
         self.first_short(giver, stock, self.reach(giver, stock, length))
     }
@@ -294,6 +298,7 @@ fn common(a: u64, b: u64) -> u64
     let mut x = a;
     let mut y = b;
     let mut rest = a % b;
+    // Kept: a `while`, since no range counts the steps of Euclid.
     while rest != 0 {
         x = y;
         y = rest;

@@ -6,48 +6,20 @@ use native.Mathlib.Omega.{arith}
 use lib.ListN.{length, get_or, length-map, get_or-map}
 use Rattle.std.specs.Prelude.{Result, Some, None, Ok, Err}
 use Rattle.numbers.specs.Lists.{All}
-use Rattle.numbers.proofs.Lists.{all_at}
 use Rattle.reply.specs.declared.Refusal.{Refusal}
 use Rattle.graph.specs.declared.Task.{Task}
-use Rattle.graph.specs.Model.{Graph, no_task, bare, task, link, task_of}
-use Rattle.graph.specs.Memory.{MemoryLink, MemoryRates, view_link}
-use Rattle.format.specs.Ranges.{TaskRange}
+use Rattle.graph.specs.Model.{Graph, bare, task, link, task_of}
+use Rattle.graph.specs.Memory.{MemoryLink, view_link}
 use Rattle.channel.specs.Judge.{Means}
 use Rattle.rules.specs.Terms.{window_of, joined, channel}
 use Rattle.rules.specs.Stages.{Earliest, At, Upto}
 use Rattle.rules.proofs.Find.{known, next_finds, place_finds, places_find}
 use Rattle.rules.proofs.Tests.{channel_finds}
-use Rattle.formed.specs.Formed.{SideFormed, ChannelFormed}
-use Rattle.formed.proofs.Parts.{channel_sides, no_link}
-use Rattle.channels.specs.Sides.{Timed, Rated, Ready, side}
+use Rattle.formed.specs.Formed.{ChannelFormed}
+use Rattle.formed.proofs.Parts.{no_link}
+use Rattle.channels.specs.Sides.{side}
 use Rattle.checker.specs.Outcome.{refusal, Behind}
 use Rattle.checker.specs.Channels.{between, Tells, Made}
-
--- ---- what the judge of a channel counts on
-
-timed : (ts : List Task) → All TaskRange ts → (i : ℕ) → i < length ts → Timed (task_of ts i) (window_of (task_of ts i))
-timed ts ranged i l =
-    let t : TaskRange (task_of ts i) = all_at TaskRange ts no_task ranged i l in
-    record { some_tick = t.some_deadline; fits = t.deadline; period_most = t.period; offset_most = t.offset }
-
-rated : (r : MemoryRates) → SideFormed r → Rated r
-rated r f =
-    let p = ap (λ (x : MemoryRates). x.plen) f.padded in
-    let c = ap (λ (x : MemoryRates). x.clen) f.padded in
-    record { prefix_most = omega (arith, f.ranged.prefix); some_rate = omega (arith, f.ranged.some_entry); cycle_most = omega (arith, f.ranged.cycle) }
-
-pub ready : (ts : List Task) → All TaskRange ts → (c : MemoryLink) → ChannelFormed (length ts) c
-    → Ready c (task_of ts c.producer) (task_of ts c.consumer) (window_of (task_of ts c.producer)) (window_of (task_of ts c.consumer))
-ready ts ranged c f =
-    let r = channel_sides (length ts) c f in
-    record {
-      producer = timed ts ranged c.producer f.ranged.producer;
-      consumer = timed ts ranged c.consumer f.ranged.consumer;
-      production = rated c.production r.0;
-      consumption = rated c.consumption r.1;
-      initial_most = f.ranged.initial;
-      size_most = f.ranged.size;
-    }
 
 -- ---- a channel of the graph
 
@@ -55,9 +27,6 @@ module _ (ts : List Task) (cs : List MemoryLink) (formed : All (ChannelFormed (l
   -- channel c in memory
   abbrev pub stored : ℕ → MemoryLink
   stored c = get_or cs c no_link
-
-  formed_at : (c : ℕ) → c < length cs → ChannelFormed (length ts) (stored c)
-  formed_at c l = all_at (ChannelFormed (length ts)) cs no_link formed c l
 
   module _ (room : ℕ) (g : Graph) (M : Made ts cs g) where
     link_is : (c : ℕ) → link g c ≡ view_link (stored c)

@@ -87,6 +87,3 @@ module _ (ts : List Task) (rs : List Relation) (room : ℕ) where
 
   pub untrue : {A : Type 0} (i : ℕ) → Both ts rs (λ g. Finds (Fails g) (length rs) (Some i)) → Behind {A = A} 10 11 room Relates (Err (FalseRelation i))
   untrue i h = record { so = falsehoods (Some i) h }
-
-  pub true_all : {A : Type 0} → Both ts rs (λ g. Finds (Fails g) (length rs) None) → (x : A) → Behind {A = A} 10 11 room Relates (Ok x)
-  true_all h x = record { so = falsehoods None h }

@@ -77,6 +77,7 @@ fn window(task: &Task) -> u32
 }
 
 // Tests 13 to 17 of channel c.
+// Kept: that it is formed as a clause, here and below, since it is of the channel and of how many tasks there are.
 fn channel_test(tasks: &Tasks, c: usize, channel: &Channel) -> Result<(), Refusal>
     requires { ChannelFormed (length tasks.now) channel.now }
     ensures { Tells tasks.now c channel.now result }

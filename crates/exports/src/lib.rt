@@ -1,12 +1,14 @@
 // The library for other languages: check, rewrite and read a file, each answer as three numbers.
 #![tactic(auto)]
 
-ghost use Rattle.std.specs.Prelude.{◌≡◌};
+ghost use Rattle.std.specs.Prelude.{◌≡◌, Result};
+ghost use Rattle.graph.specs.Memory.{Memory};
+ghost use Rattle.reader.specs.Reading.{Parses};
+ghost use Rattle.reply.specs.declared.Refusal.{Refusal};
 ghost use Rattle.reply.specs.Reply.{numbered, three};
 ghost use Rattle.exports.specs.Exports.{Checked, Rewrites, Rewritten, Read};
 
-use graph::Graph;
-use reply::{Numbers, Refusal, Reply};
+use reply::{Numbers, Reply};
 
 // The three numbers of a reply: the first handed back, the others at their places.
 fn tell(reply: Reply, place: &mut u64, job: &mut u64) -> u32
@@ -26,11 +28,11 @@ pub fn ghadibosh_check(file: &[u8], report: &mut [u32], place: &mut u64, job: &m
     tell(reply, place, job)
 }
 
-// The file of a graph that was read, or the reader's refusal.
-fn rewrite(parsed: Result<Graph, Refusal>, out: &mut [u8]) -> Reply
-    ensures { Rewrites parsed out.old result out.new }
+// What was read is written back, or the reader's refusal is handed on.
+fn rewrite(file: &[u8], out: &mut [u8]) -> Reply
+    ensures { (parsed : Result Memory Refusal) × Parses file.now parsed × Rewrites parsed out.old result out.new }
 {
-    let graph = parsed?;
+    let graph = reader::parse(file)?;
     writer::write(&graph, out)
 }
 
@@ -38,7 +40,7 @@ fn rewrite(parsed: Result<Graph, Refusal>, out: &mut [u8]) -> Reply
 pub fn ghadibosh_rewrite(file: &[u8], out: &mut [u8], place: &mut u64, job: &mut u64) -> u32
     ensures { Rewritten file.now out.old result place.new job.new out.new }
 {
-    let reply = rewrite(reader::parse(file), out);
+    let reply = rewrite(file, out);
     tell(reply, place, job)
 }
 

@@ -1,4 +1,5 @@
 // The C library: the functions of `exports` under their C names, each with the same clauses.
+// Kept: the C interface. A function of a library can't be `extern "C"` without a C name, so each one here calls its twin there.
 #![tactic(auto)]
 
 ghost use Rattle.exports.specs.Exports.{Checked, Rewritten, Read};

@@ -1,7 +1,7 @@
 -- A record in range is what its bytes hold, and bytes are those of the record that they hold. Assumes nothing.
 use mathlib.Core.Path.{◌≡◌, refl, ap, ap₂, sym, ◌∙◌}
 use mathlib.Core.Bool.{Bool, true, false, cond}
-use mathlib.Core.List.{List, [], ◌∷◌, ◌++◌, append_assoc, append-nil}
+use mathlib.Core.List.{List, [], ◌∷◌, ◌++◌, append_assoc}
 use Prim.Native.Nat.{ℕ, ◌-◌, ◌<◌}
 use native.Mathlib.Omega.{arith}
 use borrow.Author.Tests.{lt-ltb, le-ltb, eqb-true}
@@ -114,7 +114,3 @@ pub encodes_append : (qs rs : List Record) → encodes (qs ++ rs) ≡ encodes qs
 unfolding encodes
 encodes_append [] rs = refl
 encodes_append (q ∷ qs) rs = ap (λ l. encode q ++ l) (encodes_append qs rs) ∙ sym (append_assoc (encode q) (encodes qs) (encodes rs))
-
-pub encodes_one : (r : Record) → encodes (r ∷ []) ≡ encode r
-unfolding encodes
-encodes_one r = append-nil (encode r)

@@ -11,7 +11,7 @@ use lib.Seq.{drop-cons, drop-drop, take-suc, get_or-drop}
 use Rattle.std.specs.Prelude.{Some, None}
 use Rattle.graph.specs.Model.{Link, bare}
 use Rattle.format.specs.Growth.{list_of}
-use Rattle.format.specs.Record.{be, number, split, total, Kind, kind_of, size, Record, kind, encode, decode, digits, rank}
+use Rattle.format.specs.Record.{be, number, Kind, kind_of, size, Record, kind, encode, decode, digits, rank}
 use Rattle.format.specs.Reader.{InRange, count, limit, State, start, step, Test, unknown, cut, down, range, full, Fires, FirstTest, Good, cycles, Answer, stopped, Ends, Answers, Leads, passes, Bytes}
 use Rattle.numbers.proofs.Lists.{all_drop}
 use Rattle.numbers.proofs.Sums.{cases}
@@ -141,14 +141,6 @@ be_4 v h =
     let c : v % 16777216 % 65536 / 256 ≡ v / 256 % 256 = omega arith in
     let d : v % 16777216 % 65536 % 256 / 1 ≡ v % 256 = omega arith in
     rw (b, c, d)
-
--- field i stands behind the widths before it
-pub field_at : (ws bs : List ℕ) (i : ℕ) → i < length ws → get_or (split ws bs) i 0 ≡ number (take (get_or ws i 0) (drop (total (take i ws)) bs))
-unfolding split
-field_at [] bs i h = absurd (omega arith)
-field_at (w ∷ ws) bs zero h = refl
-field_at (w ∷ ws) bs (suc i) h =
-    field_at ws (drop w bs) i (omega arith) ∙ ap (λ l. number (take (get_or ws i 0) l)) (drop-drop (total (take i ws)) w bs)
 
 -- at place 2 × channel + side stands the length of that cycle, and behind the last place there is none
 pub cycle_place : (cs : List Link) (c s : ℕ) → c < length cs → s ≤ 1 → get_or (cycles cs) (2 * c + s) 1 ≡ length (list_of (get_or cs c (bare 0 0 0 0)) s 1)

@@ -5,7 +5,7 @@ use Rattle.graph.specs.Memory.{MemoryLink, MemoryRates, pad}
 use Rattle.graph.proofs.Laid.{pad_of, of_pad}
 use Rattle.format.specs.Ranges.{Tokens}
 use Rattle.numbers.proofs.Lists.{all_at, at_all}
-use Rattle.formed.specs.Formed.{SideFormed, ChannelFormed, Places}
+use Rattle.formed.specs.Formed.{SideFormed, Places}
 
 -- ---- zero behind the first places
 
@@ -76,14 +76,6 @@ module _ (s : MemoryRates) (p : length s.prefix ≡ 16) (q : length s.cycle ≡ 
 
   pub side_told : {b : Bool} → IsTrue b ↔ SideParts s → IsTrue b ↔ SideFormed s
   side_told t = (λ h. side_yes (t.0 h), λ f. t.1 (side_no f))
-
--- ---- a channel, by its sides
-
-pub channel_sides : (n : ℕ) (c : MemoryLink) → ChannelFormed n c → SideFormed c.production × SideFormed c.consumption
-channel_sides n c f = (
-  record { padded = ap (λ (x : MemoryLink). x.production) f.padded; ranged = f.ranged.production },
-  record { padded = ap (λ (x : MemoryLink). x.consumption) f.padded; ranged = f.ranged.consumption },
-)
 
 -- what is read past the end of a list of channels
 abbrev pub no_link : MemoryLink

@@ -5,11 +5,11 @@ ghost use Rattle.std.specs.Prelude.{◌≡◌, ◌≤◌, ◌↔◌, IsTrue, len
 ghost use Rattle.formed.specs.Formed.{WellFormed, SideFormed, ChannelFormed, Places};
 
 mod entry;
-mod lists;
+mod wellformed;
 
 use entry::Entry;
 use graph::{Channel, Graph, Side};
-pub use lists::Formed;
+pub use wellformed::Formed;
 
 // Whether each entry is zero.
 fn zeros(list: &[u16]) -> bool

@@ -4,7 +4,7 @@ use mathlib.Core.List.{List}
 use Prim.Native.Nat.{ℕ, ◌-◌, ◌%◌, ◌≤◌, ◌<◌}
 use native.Mathlib.Nat.{mod-eq_of_lt}
 use native.Mathlib.Omega.{arith}
-use borrow.Author.Tests.{le-ltb, ne_eqb}
+use borrow.Author.Tests.{lt-ltb, le-ltb, ne_eqb}
 use lib.ListN.{length, get_or}
 use Rattle.graph.specs.Rates.{list_of, place_in, place_of, rate_of}
 
@@ -20,6 +20,10 @@ module _ (prefix cycle : List ℕ) (m : ℕ) where
 
 -- by the lengths p and c of prefix and cycle
 module _ (p c m : ℕ) where
+  pub place_in_prefix : m < p → m ≡ place_in p c m
+  unfolding place_in
+  place_in_prefix h = rw (lt-ltb m p h)
+
   pub place_in_cycle : p ≤ m → 0 < c → (m - p) % c ≡ place_in p c m
   unfolding place_in
   place_in_cycle h k = rw (le-ltb m p h, ne_eqb c 0 (λ e. omega arith))

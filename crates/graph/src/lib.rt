@@ -16,7 +16,7 @@ pub struct Task {
 }
 
 // The rates of one side of a channel: the first `plen` places of the prefix and the first `clen` of the cycle count.
-// Kept: arrays with a count beside each, since the law fixes the fields of a graph in memory.
+// Kept: arrays with a count beside each, since the rules fix the fields of a graph in memory.
 #[derive(Clone, Copy, PartialEq, Eq)]
 pub struct Side {
     pub prefix: [u16; Graph::PREFIX],
@@ -47,7 +47,7 @@ pub struct Relation {
 }
 
 // A graph: the first places of each array, up to its count, and zero behind them.
-// Kept: arrays with a count beside each, since the law fixes the fields of a graph in memory.
+// Kept: arrays with a count beside each, since the rules fix the fields of a graph in memory.
 #[derive(Clone, Copy, PartialEq, Eq)]
 pub struct Graph {
     pub tasks: [Task; Graph::TASKS],

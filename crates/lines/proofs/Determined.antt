@@ -2,13 +2,13 @@
 use mathlib.Core.Path.{◌≡◌, sym, ap, ap₂, ◌∙◌}
 use mathlib.Core.Bool.{cond}
 use mathlib.Core.List.{List, ◌++◌}
-use Prim.Native.Nat.{ℕ, ◌≤◌}
+use Prim.Native.Nat.{ℕ}
 use native.Mathlib.Omega.{arith}
 use borrow.Author.Tests.{ne_eqb}
 use lib.Dec.{eqb}
 use lib.ListN.{length, take, drop, replicate, take-append-drop}
 use lib.Seq.{take_at}
-use Rattle.std.specs.Prelude.{Ok, Err}
+use Rattle.std.specs.Prelude.{Err}
 use Rattle.reply.specs.Reply.{Reply, numbered, number}
 use Rattle.graph.specs.Model.{Graph, count}
 use Rattle.format.specs.Reader as files
@@ -17,7 +17,6 @@ use Rattle.rules.specs.Files.{Judged}
 use Rattle.rules.proofs.Find.{known}
 use Rattle.rules.proofs.Files.{file_determined}
 use Rattle.checker.specs.Check.{ChecksFile}
-use Rattle.checker.proofs.Files.{accepted_fits}
 use Rattle.lines.specs.Lines.{lines, shown, Prints, Printed}
 
 -- ---- what is shown of the report is the figures
@@ -34,11 +33,6 @@ figures_shown file before after r c = go c.answers.read c.answers.judged
     go (files.stopped t p) j = ap shown j.0 ∙ sym (ap length j.1)
     go files.no_task j = ap shown j.0 ∙ sym (ap length j.1)
     go (files.no_entry p) j = ap shown j.0 ∙ sym (ap length j.1)
-
--- and no more than the report has places
-pub shown_fits : (file before after : List ℕ) (r : Reply) → ChecksFile file before r after → shown r ≤ length before
-shown_fits file before after (Ok n) c = accepted_fits file before after n c
-shown_fits file before after (Err r) c = omega arith
 
 -- the lines are those of the reply and the figures
 pub lines_are : (file : List ℕ) (r : Reply) (report : List ℕ) (c : ChecksFile file (replicate 32 0) r report)

@@ -11,6 +11,7 @@ use output::Cursor;
 use reply::Numbers;
 
 // A number in decimal and a byte behind it. The longest number of 64 bits has 20 digits.
+// Kept: `Printed` fixes every byte, and `answer` can't fail. `write!` promises its bytes where it succeeds, and nowhere that it does.
 fn put_word(cursor: &mut Cursor, n: u64, end: u8)
     requires { HasRoom cursor.old 21 }
     ensures word { Wrote cursor.old (word n end) cursor.new }
@@ -33,6 +34,7 @@ fn put_figures(cursor: &mut Cursor, figures: &[u32])
 }
 
 // The lines for a file at the front of the output; the answer is how many bytes they are.
+// Kept: no heap. `Printed` fixes every byte of the output that is lent, and how many of them are the lines.
 pub fn answer(file: &[u8], out: &mut [u8; 2048]) -> usize
     ensures { Printed file.now out.old out.new result }
 {

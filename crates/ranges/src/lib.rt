@@ -19,11 +19,12 @@ pub fn task_in_range(t: &Task) -> bool
 }
 
 // Whether a channel's record names two of so many tasks, and its numbers are in range.
+// Kept: four numbers, since a record's head and a channel in memory both hold them; one struct for both would be copied at each call and no plainer.
 pub fn ends_in_range(producer: u8, consumer: u8, initial: u32, size: u32, count: usize) -> bool
     ensures { IsTrue result ↔ (producer < count) × (consumer < count) × (initial ≤ million) × (size ≤ million) }
 {
-    (producer as usize) < count
-        && (consumer as usize) < count
+    usize::from(producer) < count
+        && usize::from(consumer) < count
         && initial <= Graph::MILLION
         && size <= Graph::MILLION
 }
@@ -32,8 +33,8 @@ pub fn ends_in_range(producer: u8, consumer: u8, initial: u32, size: u32, count:
 pub fn relation_in_range(r: &Relation, count: usize) -> bool
     ensures { IsTrue result ↔ RelationRange count r.now }
 {
-    (r.p as usize) < count
-        && (r.q as usize) < count
+    usize::from(r.p) < count
+        && usize::from(r.q) < count
         && (1..=Graph::MILLION).contains(&r.n)
         && (Graph::LEAST_PHASE..=Graph::PHASE).contains(&r.phi)
         && (1..=Graph::MILLION).contains(&r.d)

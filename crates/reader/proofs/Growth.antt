@@ -20,7 +20,7 @@ change_set f (suc i) (x ∷ xs) d h = ap (λ l. x ∷ l) (change_set f i xs d (o
 abbrev pub with_sides : Link → ℕ → Rates → Link
 with_sides l side q = cond (eqb side 0) (with_rates l q l.consumption) (with_rates l l.production q)
 
--- a channel grows at one of its sides
+-- a channel grows at one of its sides (cited by docs/MAP)
 pub push_side : (side part x : ℕ) (l : Link) → with_sides l side (push_part (side_of l side) part x) ≡ push side part x l
 push_side side part x l = go (eqb side 0)
   where

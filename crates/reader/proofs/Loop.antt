@@ -27,13 +27,6 @@ stands_start file = record { state = start; leads = leads_start file; floors = r
 refused : (file : List ℕ) (t : Named) (at : ℕ) → Answers file (stopped (test_of t) at) → Refused file (stop_reply (test_of t) at)
 refused file t at a = (stopped (test_of t) at, a, refl)
 
--- what the tests say of a record that is read: of a rate all but the last
-judged : (s : State) (q : Record) (r : Read) → Judges s q (Ok r) → (q ≡ said r) × (s.floor ≤ rank q) × InRange s.graph q
-judged s q (Task t) (e, good) = (e, good.in_order, good.in_range)
-judged s q (Channel h) (e, good) = (e, good.in_order, good.in_range)
-judged s q (Rate e) j = j
-judged s q (Relation l) (e, good) = (e, good.in_order, good.in_range)
-
 -- a rate in range names a channel of the graph
 names : (g : Graph) (r : Read) → InRange g (said r) → Names g r
 unfolding ranges
@@ -91,7 +84,7 @@ module _ (file : List ℕ) (m : Memory) (floor at : ℕ) (S : Stands file m floo
         → (k : Kind) × (kind_of byte ≡ Some k) × (size k ≤ length bs) × (held k ≡ said r) × (s.floor ≤ rank (held k)) × InRange s.graph (held k)
     told_record r None known e = cc
     told_record r (Some k) known (inl (h, e)) = cc
-    told_record r (Some k) known (inr (long, j)) = let (e, order, range) = judged s (held k) r j in (k, known, long, e, order, range)
+    told_record r (Some k) known (inr (long, j)) = let (e, order, range, room) = j in (k, known, long, e, order, range)
 
     module _ (f : Result Read Named) (tells : (t : State) → Behind t behind → Tells file t at f) where
       told : Tells file s at f

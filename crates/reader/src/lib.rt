@@ -32,7 +32,7 @@ fn append<T: Copy>(places: &mut [T], count: &mut usize, item: T) -> Result<(), T
     Ok(())
 }
 
-// An entry behind the others of its part.
+// An entry behind the others of its part, 0 or 1 as in `record::Entry`.
 fn push(side: &mut Side, part: u8, tokens: u16) -> Result<(), Test>
     ensures { (r : Rates) → side.old ≡ laid_rates r → Pushes r part tokens side.new result }
 {
@@ -56,7 +56,7 @@ fn bare(head: &Head) -> Channel
     }
 }
 
-// Puts a record where it belongs; where its list is full, the graph stays as it was.
+// Puts a record where it belongs; where its list is full, the graph stays as it was. A rate's side is 0 or 1 as in `record::Entry`.
 fn store(graph: &mut Graph, record: &Record) -> Result<(), Test>
     requires { (g : Model) × (graph.old ≡ laid g) × Names g «record».now }
     ensures { (g : Model) → graph.old ≡ laid g → Names g «record».now → Stores g «record».now graph.new result }
@@ -93,6 +93,7 @@ fn refusal(test: Test, at: usize) -> Refusal
 }
 
 // The graph that the records make, up to the end of the file or the first that a test stops.
+// Kept: the loop goes by places, since each record's length is known only once it is read.
 fn records(file: &[u8]) -> Result<Graph, Refusal>
     ensures { Ended file.now result }
 {
@@ -115,6 +116,7 @@ fn records(file: &[u8]) -> Result<Graph, Refusal>
 }
 
 // The first cycle without entries, by its place 2 × channel + side.
+// Kept: the place is a number, since the reply's own number says it so (`EmptyCycle` in `numbered` of reply/specs).
 fn hollow(channels: &[Channel]) -> Option<usize>
     ensures { (g : Model) → channels.now ≡ map laid_link g.channels → FirstHollow g result }
 {

@@ -18,8 +18,8 @@ use Rattle.record.specs.declared.Test.TheVariants.{Unknown, Cut, Down, Range, Fu
 use Rattle.record.specs.declared.Entry.{Entry}
 use Rattle.record.specs.declared.Record.{Record as Read}
 use Rattle.record.specs.declared.Record.TheVariants.{Task, Channel, Rate, Relation}
-use Rattle.record.specs.Fields.{entered}
-use Rattle.record.specs.Fronts.{Behind, Judges, TellsOf, Tells}
+use Rattle.record.specs.Fields.{entered, said}
+use Rattle.record.specs.Fronts.{Behind, Room, Judges, TellsOf, Tells}
 
 -- the answer to a record that passes its tests
 abbrev passed : Record → Result Read Test
@@ -39,16 +39,25 @@ data Shown (s : State) (r : Record) : Result Read Test → Type 0 where
 abbrev Roomy : State → Record → Type 0
 Roomy s r = (e : Entry) → r ≡ entered e → count s.graph r < limit r
 
+roomed : (s : State) (r : Record) → Roomy s r → Room s r → count s.graph r < limit r
+roomed s (task t) h m = m
+roomed s (channel p c i z) h m = m
+roomed s (rate c d p x) h m = h (record { channel = c; side = d; part = p; tokens = x }) refl
+roomed s (relation l) h m = m
+
+passed_is : (x : Read) → passed (said x) ≡ Ok x
+passed_is (Task t) = refl
+passed_is (Channel h) = refl
+passed_is (Rate e) = refl
+passed_is (Relation l) = refl
+
 shown : (s : State) (r : Record) (f : Result Read Test) → Roomy s r → Judges s r f → Shown s r f
 shown s r (Err Unknown) h j = absurd j
 shown s r (Err Cut) h j = absurd j
 shown s r (Err Down) h j = is_down j
 shown s r (Err Range) h (o, n) = is_out o n
 shown s r (Err Full) h (o, i, l) = is_full o i l
-shown s r (Ok (Task t)) h (e, g) = subst (Shown s r) (ap passed e) (is_in g.in_order g.in_range g.room)
-shown s r (Ok (Channel c)) h (e, g) = subst (Shown s r) (ap passed e) (is_in g.in_order g.in_range g.room)
-shown s r (Ok (Rate c)) h (e, o, i) = subst (Shown s r) (ap passed e) (is_in o i (h c e))
-shown s r (Ok (Relation l)) h (e, g) = subst (Shown s r) (ap passed e) (is_in g.in_order g.in_range g.room)
+shown s r (Ok x) h (e, o, i, m) = subst (Shown s r) (ap passed e ∙ passed_is x) (is_in o i (roomed s r h m))
 
 shown_one : (s : State) (r : Record) (f g : Result Read Test) → Shown s r f → Shown s r g → f ≡ g
 shown_one s r f g (is_down a) (is_down b) = refl

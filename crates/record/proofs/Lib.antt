@@ -1,3 +1,4 @@
+pub mod Table
 pub mod Fields
 pub mod Fronts
 pub mod Determined

@@ -1,13 +1,12 @@
 -- What the tests of one record say of it, behind the counts of what is read. Assumes nothing.
-use Rattle.std.specs.Prelude.{◌≡◌, ◌⊎◌, List, ℕ, suc, ◌≤◌, ◌<◌, length, get_or, take, drop, Result, Ok, Err, Option, None, Some}
+use Rattle.std.specs.Prelude.{Bool, IsTrue, ◌↔◌, ◌≡◌, ◌⊎◌, List, ℕ, suc, ◌≤◌, ◌<◌, length, get_or, take, drop, Result, Ok, Err, Option, None, Some}
 use Rattle.format.specs.Record.{Kind, kind_of, size, Record, task, channel, rate, relation, decode, rank}
-use Rattle.format.specs.Reader.{State, InRange, count, limit, Good}
+use Rattle.format.specs.Reader.{State, InRange, count, limit}
 use Rattle.record.specs.declared.Counts.{Counts}
 use Rattle.record.specs.declared.Test.{Test}
 use Rattle.record.specs.declared.Test.TheVariants.{Unknown, Cut, Down, Range, Full}
 use Rattle.record.specs.declared.Record.{Record as Read}
-use Rattle.record.specs.declared.Record.TheVariants.{Task, Channel, Rate, Relation}
-use Rattle.record.specs.Fields.{headed, entered}
+use Rattle.record.specs.Fields.{said}
 
 -- the counts are those of the state: its floor, and how many records of each kind it has
 pub record Behind (s : State) (behind : Counts) : Type 0 where
@@ -23,6 +22,10 @@ Room s (channel p c i n) = count s.graph (channel p c i n) < limit (channel p c 
 Room s (rate c d p x) = Unit {0}
 Room s (relation l) = count s.graph (relation l) < limit (relation l)
 
+-- whichever answer a test gives, it says whether P holds
+abbrev pub Tests : (Bool → Type 0) → Type 0 → Type 0
+Tests Gives P = (b : Bool) → Gives b → (IsTrue b ↔ P)
+
 -- the record r, whose kind and length are right, as the other tests judge it
 abbrev pub Judges : State → Record → Result Read Test → Type 0
 Judges s r (Err Unknown) = ⊥
@@ -30,10 +33,7 @@ Judges s r (Err Cut) = ⊥
 Judges s r (Err Down) = rank r < s.floor
 Judges s r (Err Range) = (s.floor ≤ rank r) × ¬ InRange s.graph r
 Judges s r (Err Full) = (s.floor ≤ rank r) × InRange s.graph r × (limit r ≤ count s.graph r)
-Judges s r (Ok (Task t)) = (r ≡ task t) × Good s r
-Judges s r (Ok (Channel h)) = (r ≡ headed h) × Good s r
-Judges s r (Ok (Rate e)) = (r ≡ entered e) × (s.floor ≤ rank r) × InRange s.graph r
-Judges s r (Ok (Relation l)) = (r ≡ relation l) × Good s r
+Judges s r (Ok x) = (r ≡ said x) × (s.floor ≤ rank r) × InRange s.graph r × Room s r
 
 -- what stands at a kind byte with these bytes behind it: the first test that fires, or the record
 abbrev pub TellsOf : State → Option Kind → List ℕ → Result Read Test → Type 0

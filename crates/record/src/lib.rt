@@ -2,10 +2,11 @@
 #![tactic(auto)]
 
 ghost use Rattle.std.specs.Prelude.{◌≡◌, ◌↔◌, ◌+◌, ◌≤◌, ◌<◌, suc, length, take, drop, IsTrue};
+ghost use Rattle.graph.specs.Model.{million};
 ghost use Rattle.format.specs.Reader.{InRange, State};
 ghost use Rattle.format.specs.Record.{number, digits, size, decode, kind, rank};
 ghost use Rattle.record.specs.Fields.{Names, meant, said};
-ghost use Rattle.record.specs.Fronts.{Behind, Room, Judges, Tells};
+ghost use Rattle.record.specs.Fronts.{Behind, Room, Tests, Judges, Tells};
 
 use graph::{Graph, Relation, Task};
 use ranges::{ends_in_range, relation_in_range, task_in_range};
@@ -39,6 +40,7 @@ pub struct Head {
 }
 
 // A rate's record: an entry of the list that channel, side and part name.
+// Kept: side and part are numbers, as the file has them: `rank`, `ranges` and `limit` of format/specs speak of numbers, and the order of such entries is tested (3) before their range (4).
 #[derive(Clone, Copy, PartialEq, Eq)]
 pub struct Entry {
     pub channel: u8,
@@ -92,6 +94,13 @@ impl Kind {
     {
         BODY[self as usize]
     }
+
+    // The length of a record of the kind: the kind's byte and the body.
+    pub fn record_length(self) -> usize
+        ensures { result ≡ suc (size (meant self)) }
+    {
+        1 + self.body_length()
+    }
 }
 
 // The part of the file from `at` on, at most `len` bytes of it.
@@ -103,7 +112,8 @@ pub fn body(file: &[u8], at: usize, len: usize) -> &[u8]
 }
 
 // What never goes down through a file, as one number.
-// Kept: the sum as the law has it. `u32::from_be_bytes` is no plainer, and waits until the fields are stored: reading takes twice as long.
+// Kept: `u32::from_be_bytes([kind, a, b, c])` is no shorter, and reading a file takes twice as long with it.
+// Kept: `kind` is a number, since its contract is promised to callers by number (`kind ≤ 4`).
 pub fn rank_of(kind: u8, a: u8, b: u8, c: u8) -> u32
     requires { kind ≤ 4 }
     ensures { result ≡ digits kind a b c }
@@ -111,22 +121,21 @@ pub fn rank_of(kind: u8, a: u8, b: u8, c: u8) -> u32
     u32::from(kind) * 16_777_216 + u32::from(a) * 65_536 + u32::from(b) * 256 + u32::from(c)
 }
 
-// The number that the two bytes from `at` on write, the highest byte first.
-#[tactic(auto, using(crate::proofs::Fields::number_two))]
-fn u16_at(bytes: &[u8], at: usize) -> u16
-    requires { at + 2 ≤ length bytes.now }
-    ensures { result ≡ number (take 2 (drop at bytes.now)) }
+// The N bytes from `at` on.
+fn bytes_at<const N: usize>(bytes: &[u8], at: usize) -> [u8; N]
+    requires { at + N ≤ length bytes.now }
+    ensures { result ≡ take N (drop at bytes.now) }
 {
-    u16::from_be_bytes([bytes[at], bytes[at + 1]])
+    bytes[at..at + N].try_into().unwrap()
 }
 
-// The number that the four bytes from `at` on write.
-#[tactic(auto, using(format::proofs::Steps::number_four))]
-fn u32_at(bytes: &[u8], at: usize) -> u32
-    requires { at + 4 ≤ length bytes.now }
-    ensures { result ≡ number (take 4 (drop at bytes.now)) }
-{
-    u32::from_be_bytes([bytes[at], bytes[at + 1], bytes[at + 2], bytes[at + 3]])
+impl Head {
+    // Whether it names two of so many tasks, and its numbers are in range.
+    fn in_range(&self, tasks: usize) -> bool
+        ensures { IsTrue result ↔ (self.now.producer < tasks) × (self.now.consumer < tasks) × (self.now.initial ≤ million) × (self.now.size ≤ million) }
+    {
+        ends_in_range(self.producer, self.consumer, self.initial, self.size, tasks)
+    }
 }
 
 impl Entry {
@@ -151,11 +160,11 @@ impl Record {
         }
     }
 
-    // How many bytes it has in a file: the kind's byte and the body.
+    // How many bytes it has in a file.
     pub fn length(&self) -> usize
         ensures { result ≡ suc (size (kind (said self.now))) }
     {
-        1 + self.kind().body_length()
+        self.kind().record_length()
     }
 
     // Its rank, which never goes down through a file.
@@ -172,16 +181,23 @@ impl Record {
     }
 
     // The record where it is not below the floor, its fields are in range and there is room for it, or the first of these tests that fires.
-    fn tested(self, floor: u32, in_range: bool, has_room: bool) -> Result<Self, Test>
-        ensures { (s : State) → s.floor ≡ floor → (IsTrue in_range ↔ InRange s.graph (said self)) → (IsTrue has_room ↔ Room s (said self)) → Judges s (said self) result }
+    fn tested<R: FnOnce() -> bool, F: FnOnce() -> bool>(
+        self,
+        floor: u32,
+        in_range: R,
+        has_room: F,
+    ) -> Result<Self, Test>
+        requires in_range { R.IsAlwaysCallable in_range }
+        requires has_room { F.IsAlwaysCallable has_room }
+        ensures { (s : State) → s.floor ≡ floor → Tests (R.post in_range) (InRange s.graph (said self)) → Tests (F.post has_room) (Room s (said self)) → Judges s (said self) result }
     {
         if self.rank() < floor {
             return Err(Test::Down);
         }
-        if !in_range {
+        if !in_range() {
             return Err(Test::Range);
         }
-        if !has_room {
+        if !has_room() {
             return Err(Test::Full);
         }
         Ok(self)
@@ -195,33 +211,29 @@ impl Record {
         match kind {
             Kind::Task => {
                 let task = Task {
-                    period: u32_at(bytes, 0),
-                    offset: u32_at(bytes, 4),
-                    deadline: u32_at(bytes, 8),
-                    worst: u32_at(bytes, 12),
+                    period: u32::from_be_bytes(bytes_at(bytes, 0)),
+                    offset: u32::from_be_bytes(bytes_at(bytes, 4)),
+                    deadline: u32::from_be_bytes(bytes_at(bytes, 8)),
+                    worst: u32::from_be_bytes(bytes_at(bytes, 12)),
                     priority: bytes[16],
                 };
-                let in_range = task_in_range(&task);
-                Self::Task(task).tested(behind.floor, in_range, behind.tasks < Graph::TASKS)
+                Self::Task(task).tested(
+                    behind.floor,
+                    || task_in_range(&task),
+                    || behind.tasks < Graph::TASKS,
+                )
             }
             Kind::Channel => {
                 let head = Head {
                     producer: bytes[0],
                     consumer: bytes[1],
-                    initial: u32_at(bytes, 2),
-                    size: u32_at(bytes, 6),
+                    initial: u32::from_be_bytes(bytes_at(bytes, 2)),
+                    size: u32::from_be_bytes(bytes_at(bytes, 6)),
                 };
-                let in_range = ends_in_range(
-                    head.producer,
-                    head.consumer,
-                    head.initial,
-                    head.size,
-                    behind.tasks,
-                );
                 Self::Channel(head).tested(
                     behind.floor,
-                    in_range,
-                    behind.channels < Graph::CHANNELS,
+                    || head.in_range(behind.tasks),
+                    || behind.channels < Graph::CHANNELS,
                 )
             }
             Kind::Rate => {
@@ -229,24 +241,22 @@ impl Record {
                     channel: bytes[0],
                     side: bytes[1],
                     part: bytes[2],
-                    tokens: u16_at(bytes, 3),
+                    tokens: u16::from_be_bytes(bytes_at(bytes, 3)),
                 };
-                let in_range = entry.in_range(behind.channels);
-                Self::Rate(entry).tested(behind.floor, in_range, true)
+                Self::Rate(entry).tested(behind.floor, || entry.in_range(behind.channels), || true)
             }
             Kind::Relation => {
                 let relation = Relation {
                     p: bytes[0],
                     q: bytes[1],
-                    n: u32_at(bytes, 2),
-                    phi: u32_at(bytes, 6).cast_signed(),
-                    d: u32_at(bytes, 10),
+                    n: u32::from_be_bytes(bytes_at(bytes, 2)),
+                    phi: u32::from_be_bytes(bytes_at(bytes, 6)).cast_signed(),
+                    d: u32::from_be_bytes(bytes_at(bytes, 10)),
                 };
-                let in_range = relation_in_range(&relation, behind.tasks);
                 Self::Relation(relation).tested(
                     behind.floor,
-                    in_range,
-                    behind.relations < Graph::RELATIONS,
+                    || relation_in_range(&relation, behind.tasks),
+                    || behind.relations < Graph::RELATIONS,
                 )
             }
         }

@@ -75,10 +75,12 @@ same_number x y hx hy e = sym (to_z-of_z w64 x hx) ∙ ap (to_z w64) e ∙ to_z-
 
 -- n × (a − b) and φ × t as the machine makes them are equal where the whole numbers' products are
 module _ (n a b t : ℕ) (phi : ℤ) (hn : n ≤ 1000000) (ha : a ≤ 1000000) (hb : b ≤ 1000000) (ht : t ≤ 1000000) (hphi : nat_abs phi ≤ 1000000) where
-  pub same_products : (of_z w64 (to_z w64 n *ℤ to_z w64 (of_z w64 (to_z w64 a -ℤ to_z w64 b))) ≡ of_z w64 (to_z w64 (of_z w64 (to_z w32 (of_z w32 phi))) *ℤ to_z w64 t))
+  pub same_products : {x y z u v : ℤ} → x ≡ pos n → y ≡ pos a → z ≡ pos b → u ≡ to_z w32 (of_z w32 phi) → v ≡ pos t
+      → (of_z w64 (to_z w64 (of_z w64 x) *ℤ to_z w64 (of_z w64 (to_z w64 (of_z w64 y) -ℤ to_z w64 (of_z w64 z)))) ≡ of_z w64 (to_z w64 (of_z w64 u) *ℤ to_z w64 (of_z w64 v)))
       ↔ (pos n *ℤ (pos a -ℤ pos b) ≡ phi *ℤ pos t)
-  same_products =
+  same_products xe ye ze ue ve =
       let left = left_is n a b hn ha hb in
       let right = right_is phi t (record { sfits = lt_of_le_of_lt (le_trans (mag_le phi) hphi) (lit< tt) }) ht in
       let left_fits = product_fits (pos n) (pos a -ℤ pos b) hn (abs_diff a b 1000000 ha hb) in
+      rw (xe, ye, ze, ue, ve)
       (λ e. same_number _ _ left_fits (product_fits phi (pos t) hphi ht) (sym (ap (of_z w64) left) ∙ e ∙ ap (of_z w64) right), λ e. ap (of_z w64) (left ∙ e ∙ sym right))

@@ -47,38 +47,33 @@ pub struct Numbers {
     pub job: u64,
 }
 
-fn three(number: u32, place: usize, job: u64) -> Numbers
-    ensures { result ≡ record { number = number; place = place; job = job } }
-{
-    Numbers { number, place, job }
-}
-
 impl From<Reply> for Numbers {
     ghost from_gives = { λ reply numbers. numbers ≡ numbered reply };
 
-    fn from(reply: Reply) -> Numbers {
-        match reply {
-            Ok(tasks) => three(0, tasks, 0),
-            Err(Refusal::UnknownKind { at }) => three(1, at, 0),
-            Err(Refusal::CutShort { at }) => three(2, at, 0),
-            Err(Refusal::OutOfOrder { at }) => three(3, at, 0),
-            Err(Refusal::OutOfRange { at }) => three(4, at, 0),
-            Err(Refusal::TooMany { at }) => three(5, at, 0),
-            Err(Refusal::NoTask) => three(6, 0, 0),
-            Err(Refusal::EmptyCycle { place }) => three(7, place, 0),
-            Err(Refusal::SamePriority { task }) => three(8, task, 0),
-            Err(Refusal::ShortReport { tasks }) => three(9, tasks, 0),
-            Err(Refusal::FalseRelation { relation }) => three(10, relation, 0),
-            Err(Refusal::Late { task }) => three(11, task, 0),
-            Err(Refusal::Overloaded) => three(12, 0, 0),
-            Err(Refusal::InitialAboveSize { channel }) => three(13, channel, 0),
-            Err(Refusal::Unbalanced { channel }) => three(14, channel, 0),
-            Err(Refusal::WindowTooLong { channel }) => three(15, channel, 0),
-            Err(Refusal::Underflow { channel, job }) => three(16, channel, job),
-            Err(Refusal::Overflow { channel, job }) => three(17, channel, job),
-            Err(Refusal::NoFile) => three(18, 0, 0),
-            Err(Refusal::ShortOutput { needed }) => three(19, needed, 0),
-        }
+    fn from(reply: Reply) -> Self {
+        let (number, place, job) = match reply {
+            Ok(tasks) => (0, tasks, 0),
+            Err(Refusal::UnknownKind { at }) => (1, at, 0),
+            Err(Refusal::CutShort { at }) => (2, at, 0),
+            Err(Refusal::OutOfOrder { at }) => (3, at, 0),
+            Err(Refusal::OutOfRange { at }) => (4, at, 0),
+            Err(Refusal::TooMany { at }) => (5, at, 0),
+            Err(Refusal::NoTask) => (6, 0, 0),
+            Err(Refusal::EmptyCycle { place }) => (7, place, 0),
+            Err(Refusal::SamePriority { task }) => (8, task, 0),
+            Err(Refusal::ShortReport { tasks }) => (9, tasks, 0),
+            Err(Refusal::FalseRelation { relation }) => (10, relation, 0),
+            Err(Refusal::Late { task }) => (11, task, 0),
+            Err(Refusal::Overloaded) => (12, 0, 0),
+            Err(Refusal::InitialAboveSize { channel }) => (13, channel, 0),
+            Err(Refusal::Unbalanced { channel }) => (14, channel, 0),
+            Err(Refusal::WindowTooLong { channel }) => (15, channel, 0),
+            Err(Refusal::Underflow { channel, job }) => (16, channel, job),
+            Err(Refusal::Overflow { channel, job }) => (17, channel, job),
+            Err(Refusal::NoFile) => (18, 0, 0),
+            Err(Refusal::ShortOutput { needed }) => (19, needed, 0),
+        };
+        Self { number, place, job }
     }
 }
 
@@ -87,7 +82,7 @@ impl fmt::Display for Numbers {
     ghost output = { λ numbers. Some (line numbers) };
 
     fn fmt<W: fmt::Write>(&self, f: &mut fmt::Formatter<W>) -> fmt::Result {
-        let (number, place, job) = (self.number, self.place, self.job);
+        let Numbers { number, place, job } = self;
         write!(f, "{number} {place} {job}")
     }
 }

@@ -1,3 +1,4 @@
-mod Rivals
+mod Hindrance
 pub mod Once
 mod Figured
+mod Upwards

@@ -1,10 +1,10 @@
 // Test 11: response times, by the demand of the tasks that interfere.
 #![tactic(auto)]
 
-ghost use Rattle.std.specs.Prelude.{◌≡◌, ℕ, ◌+◌, ◌^◌, ◌≤◌, ◌<◌, length, sum_by, All};
+ghost use Rattle.std.specs.Prelude.{◌≡◌, ℕ, ◌+◌, ◌≤◌, ◌<◌, length, sum_by};
 ghost use Rattle.numbers.specs.Numbers.{ceil};
 ghost use Rattle.machine.specs.Machine.{above};
-ghost use Rattle.graph.specs.Model.{Graph as Model, count, task, max_tasks, million};
+ghost use Rattle.graph.specs.Model.{Graph as Model, count, task};
 ghost use Rattle.rules.specs.Given.{Of};
 ghost use Rattle.rules.specs.Terms.{machine};
 ghost use Rattle.response.specs.Rivals.{asked, hindrance, RivalRange, Searched};
@@ -12,6 +12,7 @@ ghost use Rattle.response.specs.Response.{Responds, Judged};
 
 use arrayvec::ArrayVec;
 use graph::{Graph, Task};
+use std::marker::Model;
 use tasks::{Tasks, cost};
 
 // A task that takes the processor from another: what a job of it costs, and its period.
@@ -21,8 +22,27 @@ struct Rival {
     period: u32,
 }
 
+// The tasks that take the processor from one of a graph's.
+#[derive(Drop)]
+struct Rivals {
+    list: ArrayVec<Rival, { Graph::TASKS }>,
+}
+
+impl Model for Rivals {
+    ghost use Rattle.std.specs.Prelude.{List, ◌≤◌, length, All};
+    ghost use Rattle.graph.specs.Model.{max_tasks};
+    ghost use Rattle.response.specs.declared.Rival.{Rival};
+    ghost use Rattle.response.specs.Rivals.{RivalRange};
+
+    ghost Value = { List Rival };
+
+    ghost view = { λ r. r.list.items };
+
+    ghost invariant = { λ r. (length r.list.items ≤ max_tasks) × All RivalRange r.list.items };
+}
+
 // The jobs of a period that are released within w ticks.
-#[tactic(auto, using(crate::proofs::Rivals::ceil_is))]
+#[tactic(auto, using(crate::proofs::Hindrance::ceil_is))]
 fn jobs(w: u32, period: u32) -> u32
     requires { 1 ≤ period }
     ensures { result ≡ ceil w period }
@@ -37,7 +57,7 @@ impl Rival {
         requires in_range { RivalRange self.now }
         ensures { result ≡ asked w self.now }
     {
-        self.cost as u64 * jobs(w, self.period) as u64
+        u64::from(self.cost) * u64::from(jobs(w, self.period))
     }
 }
 
@@ -49,11 +69,9 @@ fn interferes(other: &Task, one: &Task) -> bool
 }
 
 // The rivals of task i.
-fn rivals_of(tasks: &Tasks, i: usize) -> ArrayVec<Rival, { Graph::TASKS }>
+fn rivals_of(tasks: &Tasks, i: usize) -> Rivals
     requires { i < length tasks.now }
-    ensures few { length result.items ≤ max_tasks }
-    ensures in_range { All RivalRange result.items }
-    ensures hinder { Of tasks.now (λ g. (w : ℕ) → sum_by (asked w) result.items ≡ hindrance g i (count g) w) }
+    ensures { Of tasks.now (λ g. (w : ℕ) → sum_by (asked w) result ≡ hindrance g i (count g) w) }
 {
     let list = tasks.list();
     let mine = &list[i];
@@ -66,30 +84,23 @@ fn rivals_of(tasks: &Tasks, i: usize) -> ArrayVec<Rival, { Graph::TASKS }>
             });
         }
     }
-    rivals
+    Rivals { list: rivals }
 }
 
-// The demand at w of a task that costs `own`, over its rivals.
-fn demand(own: u32, rivals: &[Rival], w: u32) -> u64
-    requires in_range { All RivalRange rivals.now }
-    requires fits { own + sum_by (asked w) rivals.now < 2 ^ 64 }
-    ensures { result ≡ own + sum_by (asked w) rivals.now }
-{
-    own as u64 + rivals.iter().map(|rival| rival.asks(w)).sum::<u64>()
+impl Rivals {
+    // The demand at w of a task that costs `own`, over these rivals.
+    fn demand(&self, own: u32, w: u32) -> u64
+        ensures { result ≡ own + sum_by (asked w) self.now }
+    {
+        u64::from(own) + self.list.iter().map(|rival| rival.asks(w)).sum::<u64>()
+    }
 }
 
 // The least w from 1 to the limit whose demand is at most w.
-fn search(own: u32, limit: u32, rivals: &[Rival]) -> Option<u32>
-    requires few { length rivals.now ≤ max_tasks }
-    requires in_range { All RivalRange rivals.now }
+fn search(own: u32, limit: u32, rivals: &Rivals) -> Option<u32>
     ensures { Searched (λ w. own + sum_by (asked w) rivals.now) limit result }
 {
-    for w in 1..=limit {
-        if demand(own, rivals, w) <= w as u64 {
-            return Some(w);
-        }
-    }
-    None
+    (1..=limit).find(|&w| rivals.demand(own, w) <= u64::from(w))
 }
 
 // The response of task i, or nothing where it is late.
@@ -103,6 +114,7 @@ pub fn respond(tasks: &Tasks, i: usize) -> Option<u32>
 }
 
 // Test 11: the response of every task with zero behind them, or the first task that is late.
+// Kept: all places of the array, since `Judged` says that zero stands behind the figures.
 pub fn respond_all(tasks: &Tasks) -> Result<[u32; Graph::TASKS], usize>
     ensures { Of tasks.now (λ g. Judged g (length tasks.now) result) }
 {

@@ -26,7 +26,7 @@ In n s = stage s ≡ n
 
 -- ---- the earliest
 
--- of the refusals in D none is true, or r is the earliest that does
+-- of the refusals in D none is true, or r is the earliest that is
 abbrev pub Earliest : Graph → ℕ → (Refusal → Type 0) → Option Refusal → Type 0
 Earliest g room D None = (s : Refusal) → D s → ¬ Refuses g room s
 Earliest g room D (Some r) = D r × Refuses g room r × ((s : Refusal) → D s → Refuses g room s → ¬ Earlier s r)

@@ -78,7 +78,7 @@ refused file number place job = record { file = file; room = 32; numbers = three
 abbrev accepted : List ℕ → ℕ → List ℕ → Sample
 accepted file count figures = record { file = file; room = 32; numbers = three 0 count 0; figures = figures }
 
--- the samples of graph A and of a few small graphs, by what they show
+-- The samples that the specification asks to be proved: graph A and a few small graphs, by what they show.
 unfoldable pub starred : List Sample
 starred =
     refused [] 6 0 0
@@ -118,7 +118,7 @@ two_channels =
     both ++ (channel 0 1 0 8 ++ (channel 0 1 3 3 ++ (rates 2 3
     ++ (rate 1 0 0 1 ++ (rate 1 0 0 0 ++ (rate 1 0 1 2 ++ (rate 1 1 0 4 ++ rate 1 1 1 3)))))))
 
--- Our own, so that a definition that takes one field, side, place or bound for another has a row against it.
+-- One row for each field, side, place or bound that a definition could take for another.
 unfoldable pub further : List Sample
 further =
     -- 1 and 2: behind good records, the place is the kind byte's

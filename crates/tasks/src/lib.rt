@@ -1,7 +1,7 @@
 // Tests 8 and 12: a priority seen before, and the load.
 #![tactic(auto)]
 
-ghost use Rattle.std.specs.Prelude.{◌≡◌, ◌≤◌, ◌<◌, ◌^◌, ◌↔◌, IsTrue, Any, sum_by, length, ltb, All as Each};
+ghost use Rattle.std.specs.Prelude.{◌≡◌, ◌≤◌, ◌↔◌, IsTrue, Any, sum_by, length, ltb};
 ghost use Rattle.graph.specs.Model.{max_tasks};
 ghost use Rattle.reply.specs.Found.{Finds};
 ghost use Rattle.numbers.specs.Lists.{All};
@@ -35,6 +35,7 @@ impl<'a> Model for Tasks<'a> {
 }
 
 impl<'a> Tasks<'a> {
+    // The tasks of a list that is known to be in range.
     pub fn new(list: &'a [Task]) -> Self
         requires few { length list.now ≤ max_tasks }
         requires in_range { All TaskRange list.now }
@@ -43,6 +44,7 @@ impl<'a> Tasks<'a> {
         Self { list }
     }
 
+    // The list of them.
     pub fn list(&self) -> &[Task]
         ensures same { result.now ≡ self.now }
         ensures few { length self.now ≤ max_tasks }
@@ -63,12 +65,7 @@ fn seen(earlier: &[Task], task: &Task) -> bool
 pub fn same_priority(tasks: &[Task]) -> Option<usize>
     ensures { Of tasks.now (λ g. Finds (Repeats g) (length tasks.now) result) }
 {
-    for (i, task) in tasks.iter().enumerate() {
-        if seen(&tasks[..i], task) {
-            return Some(i);
-        }
-    }
-    None
+    (0..tasks.len()).find(|&i| seen(&tasks[..i], &tasks[i]))
 }
 
 // The ticks that a job of the task costs at most.
@@ -84,21 +81,20 @@ fn share_of(task: &Task) -> u64
     requires { TaskRange task.now }
     ensures { result ≡ share task.now }
 {
-    cost(task) as u64 * 1_000_000 / task.period as u64
+    u64::from(cost(task)) * 1_000_000 / u64::from(task.period)
 }
 
 // The shares of all of them.
-fn total_share(tasks: &[Task]) -> u64
-    requires in_range { Each TaskRange tasks.now }
-    requires fits { sum_by share tasks.now < 2 ^ 64 }
+#[tactic(auto, using(crate::proofs::Load::shares_fit))]
+fn total_share(tasks: &Tasks) -> u64
     ensures { result ≡ sum_by share tasks.now }
 {
-    tasks.iter().map(share_of).sum()
+    tasks.list().iter().map(share_of).sum()
 }
 
 // Test 12: the shares add up to more than a million.
 pub fn overloaded(tasks: &Tasks) -> bool
     ensures { Of tasks.now (λ g. result ≡ ltb 1_000_000 (load g)) }
 {
-    1_000_000 < total_share(tasks.list)
+    1_000_000 < total_share(tasks)
 }

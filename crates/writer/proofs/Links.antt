@@ -14,7 +14,7 @@ use Rattle.graph.specs.Memory.{MemoryRates, MemoryLink, view_rates, view_link}
 use Rattle.format.specs.Record.{Record, encodes, rate, be, join}
 use Rattle.format.specs.Writer.{rates_of, rates_from}
 use Rattle.format.proofs.Records.{encodes_append}
-use Rattle.writer.specs.Parts.{side_records, SideFits, LinkFits}
+use Rattle.writer.specs.Parts.{side_records, SideFits, ChannelFits}
 use Rattle.writer.proofs.Rows.{row_bytes}
 
 -- ---- one channel
@@ -49,7 +49,7 @@ pub link_then : (i : ℕ) (c : Link)
 link_then i c =
     record { parts = ap encodes (link_sides i c) ∙ encodes_append (side_records i 0 c.production) (side_records i 1 c.consumption) }
 
-pub link_count : (i : ℕ) (c : MemoryLink) → LinkFits c → length (rates_of i (view_link c)) ≡ count c.production + count c.consumption
+link_count : (i : ℕ) (c : MemoryLink) → ChannelFits c → length (rates_of i (view_link c)) ≡ count c.production + count c.consumption
 link_count i c f =
     ap length (link_sides i (view_link c))
     ∙ length-append (side_records i 0 (view_rates c.production)) (side_records i 1 (view_rates c.consumption))
@@ -77,7 +77,7 @@ module _ (cs : List MemoryLink) (i : ℕ) where
   links_none h = ap (λ l. rates_from i (map view_link l)) (drop_of_length-le cs h)
 
 -- no channel has more than two full lists on each side
-pub links_few : (i : ℕ) (cs : List MemoryLink) → All LinkFits cs → length (rates_from i (map view_link cs)) ≤ length cs * 96
+pub links_few : (i : ℕ) (cs : List MemoryLink) → All ChannelFits cs → length (rates_from i (map view_link cs)) ≤ length cs * 96
 unfolding rates_from
 links_few i [] h = omega arith
 links_few i (c ∷ cs) (f, h) =
@@ -100,7 +100,7 @@ abbrev no_link : MemoryLink
 no_link = record { producer = 0; consumer = 0; initial = 0; size = 0; production = no_side; consumption = no_side }
 
 -- The entries of channel i, and of those behind it.
-pub links_count : (cs : List MemoryLink) → All LinkFits cs → (i : ℕ) → i < length cs
+pub links_count : (cs : List MemoryLink) → All ChannelFits cs → (i : ℕ) → i < length cs
     → length (links_from cs i) ≡ count (get_or cs i no_link).production + count (get_or cs i no_link).consumption + length (links_from cs (i + 1))
 links_count cs h i l =
     let c : MemoryLink = get_or cs i no_link in
@@ -108,7 +108,7 @@ links_count cs h i l =
       arith,
       ap length (links_more cs i no_link l),
       length-append (rates_of i (view_link c)) (links_from cs (i + 1)),
-      link_count i c (all_at LinkFits cs no_link h i l),
+      link_count i c (all_at ChannelFits cs no_link h i l),
     )
 
 -- ---- and their bytes, 6 for each

@@ -17,7 +17,7 @@ use Rattle.format.specs.Writer.{head, rates_from, records, bytes}
 use Rattle.format.proofs.Records.{encodes_append}
 use Rattle.formed.specs.Formed.{ChannelFormed}
 use Rattle.output.proofs.Parts.{Then}
-use Rattle.writer.specs.Parts.{head_of, SideFits, LinkFits}
+use Rattle.writer.specs.Parts.{head_of, SideFits, ChannelFits}
 use Rattle.writer.proofs.Rows.{row_bytes}
 use Rattle.writer.proofs.Links.{links_bytes}
 
@@ -32,15 +32,15 @@ side_fits r f =
       cycle = omega (arith, pad_length 32 0 r.cycle f.cycle, f.cycle);
     }
 
-link_fits : (n : ℕ) (c : MemoryLink) → ChannelFormed n c → LinkFits c
+link_fits : (n : ℕ) (c : MemoryLink) → ChannelFormed n c → ChannelFits c
 link_fits n c f =
     let l = view_link c in
-    let fits : LinkFits (laid_link l) =
+    let fits : ChannelFits (laid_link l) =
     record { production = side_fits l.production f.ranged.production; consumption = side_fits l.consumption f.ranged.consumption } in
-    subst LinkFits (sym f.padded) fits
+    subst ChannelFits (sym f.padded) fits
 
-pub links_fit : (n : ℕ) (cs : List MemoryLink) → All (ChannelFormed n) cs → All LinkFits cs
-links_fit n cs h = all_map (ChannelFormed n) LinkFits (link_fits n) cs h
+pub links_fit : (n : ℕ) (cs : List MemoryLink) → All (ChannelFormed n) cs → All ChannelFits cs
+links_fit n cs h = all_map (ChannelFormed n) ChannelFits (link_fits n) cs h
 
 heads_are : (cs : List MemoryLink) → map head (map view_link cs) ≡ map head_of cs
 heads_are [] = refl

@@ -20,6 +20,6 @@ pub record SideFits (s : MemoryRates) : Type 0 where
   pub cycle : s.clen ≤ length s.cycle
 
 -- the same of both sides of a channel
-pub record LinkFits (c : MemoryLink) : Type 0 where
+pub record ChannelFits (c : MemoryLink) : Type 0 where
   pub production : SideFits c.production
   pub consumption : SideFits c.consumption

@@ -1,11 +1,11 @@
 -- `channels::weigh` meets its contract. Assumes nothing.
-use mathlib.Core.Path.{refl}
+use mathlib.Core.Path.{refl, ap₂, ◌∙◌}
 use Prim.Native.Nat.{min}
 use Rattle.channel.specs.Side.{span}
 use Rattle.channel.specs.Channel.{Balanced}
 use Rattle.channels.specs.Answers.{Measured}
 use Rattle.channels.proofs.Tables.{Known, known}
-use Rattle.channels.proofs.Weighing.{under_asks, over_asks}
+use Rattle.channels.proofs.Weighing.{measured_of, under_asks, over_asks}
 use Rattle.channels.proofs.weigh.Goals as goal
 use Rattle.channels.proofs.weigh.Goals.{After-measure}
 
@@ -20,7 +20,7 @@ module _ (c : After-measure) where
   balanced = c.if-not-balanced.ensures.0 refl
 
   measured : Measured (span c.args.producer.now) (span c.args.consumer.now) (min c.args.producer.now.period c.args.consumer.now.period) c.measure.result
-  measured = rw (c.span.ensures, c.span-2.ensures, c.min-least.ensures, producer.period, consumer.period) at c.measure.ensures
+  measured = measured_of _ c.measure.ensures (cc) (cc) (c.min-least.ensures ∙ ap₂ (λ x y. min x y) producer.period consumer.period)
 
 pub decide-requires : goal.decide-requires
 decide-requires c =

@@ -1,20 +1,15 @@
--- `relations::false_relation` meets its contract: every relation passed holds. Assumes nothing.
-use mathlib.Core.Path.{sym, ◌∙◌}
-use mathlib.Core.Bool.{false≢true}
-use borrow.Author.Count.{below_more}
-use Rattle.relations.proofs.Lookup.{relation_is}
+-- `relations::false_relation` meets its contract: the first relation that doesn't hold. Assumes nothing.
+use Rattle.std.proofs.Common.{rules, tests}
+use Rattle.std.proofs.lemmas.Iterator.{IsFirst-from_position, YieldsList-from_slice}
+use Rattle.std.proofs.iter.Serving.{serving}
+use Rattle.rules.specs.Rules.{Holds}
+use Rattle.relations.proofs.Lookup.{each, first_fails}
 use Rattle.relations.proofs.false_relation.Goals as goal
 
-pub returns-then-not-holds : goal.returns-then-not-holds
-returns-then-not-holds c =
-    λ g e f. (
-      c.loop-i-test.true,
-      (
-        λ h. let no = rw (relation_is g f c.loop-i.i) at h in false≢true (sym c.if-not-holds.true ∙ (c.holds.ensures g e).1 no),
-        λ j k h. h (c.loop-i.invariant g e f j k),
-      ),
-    )
+pub position-requires-clause-callable : goal.position-requires-clause-callable
+position-requires-clause-callable c = let all = each _ _ c.requires in grind (serving, all)
 
-pub loop-i-preserved : goal.loop-i-preserved
-loop-i-preserved c =
-    λ g e f. below_more _ c.loop-i.i (c.loop-i.invariant g e f) (rw (relation_is g f c.loop-i.i) ((c.holds.ensures g e).0 c.if-not-holds.false))
+pub returns : goal.returns
+returns c =
+    λ g e f. first_fails g f c.position.result
+    (IsFirst-from_position _ _ c.position.result (λ r. ¬ Holds g r) (Holds g) c.position.ensures.ran (YieldsList-from_slice c.args.relations.now c.iter.ensures.rest) (λ x q k. search (rules, tests)) (λ x q k. (search rules, search (rules, tests))))

@@ -8,14 +8,14 @@ use Rattle.graph.specs.declared.Task.{Task}
 use Rattle.rules.specs.Terms.{cost_of}
 use Rattle.tasks.proofs.Given.{task_is}
 use Rattle.response.specs.Rivals.{asked, Searched}
-use Rattle.response.proofs.Rivals.{responds}
+use Rattle.response.proofs.Hindrance.{responds}
 use Rattle.response.proofs.respond.Goals as goal
 
 pub returns : goal.returns
 returns c =
     λ g e.
     let mine : task_of c.list.result.now c.args.i ≡ task g c.args.i = sym (task_is g (e ∙ sym c.list.ensures.same) c.args.i) in
-    let d : ℕ → ℕ = λ w. c.cost.result + sum_by (asked w) c.deref.result.now in
+    let d : ℕ → ℕ = λ w. c.cost.result + sum_by (asked w) c.rivals_of-rivals.result in
     responds g c.args.i d
-    (λ w. omega (arith, c.cost.ensures, ap cost_of mine, ap (sum_by (asked w)) c.deref.ensures.0, c.rivals_of-rivals.ensures.hinder g e w))
+    (λ w. omega (arith, c.cost.ensures, ap cost_of mine, c.rivals_of-rivals.ensures g e w))
     c.search.result (subst (λ (t : Task). Searched d t.deadline c.search.result) mine c.search.ensures)

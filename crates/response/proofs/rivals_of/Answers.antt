@@ -7,7 +7,7 @@ use Rattle.numbers.proofs.Lists.{all_at}
 use Rattle.format.specs.Ranges.{TaskRange}
 use Rattle.graph.specs.Model.{no_task}
 use Rattle.tasks.proofs.Given.{task_is}
-use Rattle.response.proofs.Rivals.{gathered_none, gathered_pass, gathered_more}
+use Rattle.response.proofs.Hindrance.{gathered_none, gathered_pass, gathered_more}
 use Rattle.response.proofs.rivals_of.Goals.{then-interferes, else-interferes}
 use Rattle.response.proofs.rivals_of.Goals as goal
 

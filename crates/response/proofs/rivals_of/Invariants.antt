@@ -1,5 +1,5 @@
 -- What is gathered of the tasks passed. Assumes nothing.
-use Rattle.response.proofs.Rivals.{Gathered}
+use Rattle.response.proofs.Hindrance.{Gathered}
 use Rattle.response.proofs.rivals_of.Given as goal
 
 abbrev pub invariant-loop-other : goal.invariant-loop-other

@@ -1,7 +1,12 @@
--- `response::search` meets its contract: the demand fits. Assumes nothing.
-use native.Mathlib.Omega.{arith}
-use Rattle.response.proofs.Rivals.{demand_fits}
+-- `response::search` meets its contract: the first number whose demand is at most it. Assumes nothing.
+use Rattle.std.proofs.Common.{rules, tests, ◌+◌, ◌≤◌, ◌<◌, ℕ, sum_by}
+use Rattle.std.proofs.lemmas.Iterator.{first_from_find}
+use Rattle.response.specs.Rivals.{asked}
+use Rattle.response.proofs.Upwards.{upwards, searched}
 use Rattle.response.proofs.search.Goals as goal
 
-pub demand-requires-clause-fits : goal.demand-requires-clause-fits
-demand-requires-clause-fits c = demand_fits _ _ _ (omega (arith, c.ranges.own)) (omega (arith, c.ranges.limit)) c.requires.few c.requires.in_range
+pub returns : goal.returns
+returns c =
+    let d : ℕ → ℕ = λ w. c.args.own + sum_by (asked w) c.args.rivals.now in
+    searched d c.args.limit c.find.result
+    (first_from_find _ _ c.find.result (λ w. d w ≤ w) (λ w. w < d w) c.find.ensures.ran (upwards c.args.limit c.new.ensures.start c.new.ensures.end c.new.ensures.exhausted) (λ x q k. search (rules, tests)) (λ x q k. (search rules, search (rules, tests))))

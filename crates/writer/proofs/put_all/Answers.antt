@@ -8,10 +8,10 @@ pub loop-item-init : goal.loop-item-init
 loop-item-init g c = left_start c.requires
 
 pub put-requires : goal.put-requires
-put-requires g c = left_room c.loop-item.invariant (from_more (g.T.Item.as_record c.args.place.now) c.args.items.now c.loop-item.item-index _ _ c.item-item.is (omega arith))
+put-requires g c = left_room c.loop-item.invariant (from_more g.T.Item.as_record c.args.items.now c.loop-item.item-index _ _ c.item-item.is (omega arith))
 
 pub loop-item-preserved : goal.loop-item-preserved
-loop-item-preserved g c = left_more c.loop-item.invariant (from_more (g.T.Item.as_record c.args.place.now) c.args.items.now c.loop-item.item-index _ _ c.item-item.is (omega arith)) c.put.ensures
+loop-item-preserved g c = left_more c.loop-item.invariant (from_more g.T.Item.as_record c.args.items.now c.loop-item.item-index _ _ c.item-item.is (omega arith)) c.put.ensures
 
 pub returns : goal.returns
-returns g c = left_none c.loop-item.invariant (from_none (g.T.Item.as_record c.args.place.now) c.args.items.now c.loop-item.item-index (omega arith))
+returns g c = left_none c.loop-item.invariant (from_none g.T.Item.as_record c.args.items.now c.loop-item.item-index (omega arith))

@@ -4,4 +4,4 @@ use Rattle.writer.proofs.Rows.{from}
 use Rattle.writer.proofs.put_all.Given as goal
 
 abbrev pub invariant-loop-item : goal.invariant-loop-item
-invariant-loop-item g l = Left l.initial.to (from (g.T.Item.as_record l.place) l.items 0) l.to (from (g.T.Item.as_record l.place) l.items l.item-index)
+invariant-loop-item g l = Left l.initial.to (from g.T.Item.as_record l.items 0) l.to (from g.T.Item.as_record l.items l.item-index)

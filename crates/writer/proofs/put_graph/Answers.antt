@@ -17,8 +17,8 @@ put_all-requires-2 c =
     let m = left_more l (tasks_then g c.tasks.ensures.list) c.put_all.ensures in
     left_room m (heads_then g _ c.channels.ensures.list)
 
-pub put_links-requires : goal.put_links-requires
-put_links-requires c =
+pub put_rates-requires : goal.put_rates-requires
+put_rates-requires c =
     let g = c.args.graph.now in
     let l : Left c.args.to.now _ _ _ = left_start c.requires in
     let m = left_more l (tasks_then g c.tasks.ensures.list) c.put_all.ensures in
@@ -31,7 +31,7 @@ put_all-requires-3 c =
     let l : Left c.args.to.now _ _ _ = left_start c.requires in
     let m = left_more l (tasks_then g c.tasks.ensures.list) c.put_all.ensures in
     let n = left_more m (heads_then g _ c.channels.ensures.list) c.put_all-2.ensures in
-    let o = left_more n (rates_then g) c.put_links.ensures in
+    let o = left_more n (rates_then g) c.put_rates.ensures in
     left_room o (relations_then g c.relations.ensures.list)
 
 pub returns : goal.returns
@@ -40,5 +40,5 @@ returns c =
     let l : Left c.args.to.now _ _ _ = left_start c.requires in
     let m = left_more l (tasks_then g c.tasks.ensures.list) c.put_all.ensures in
     let n = left_more m (heads_then g _ c.channels.ensures.list) c.put_all-2.ensures in
-    let o = left_more n (rates_then g) c.put_links.ensures in
+    let o = left_more n (rates_then g) c.put_rates.ensures in
     left_none (left_more o (relations_then g c.relations.ensures.list) c.put_all-3.ensures) refl

@@ -50,7 +50,7 @@ impl<'a> Formed<'a> {
         Self { graph }
     }
 
-    // The tasks, in range.
+    // The tasks, in range. `formed` is of all three lists: the rules count on it, and here is where they're taken up first.
     pub fn tasks(&self) -> &[Task]
         ensures list { result.now ≡ self.now.tasks }
         ensures some { 1 ≤ length result.now }

@@ -1,4 +1,4 @@
--- `writer::put_links` meets its contract: channel by channel. Assumes nothing.
+-- `writer::put_rates` meets its contract: channel by channel. Assumes nothing.
 use native.Mathlib.Omega.{arith}
 use mathlib.Core.Path.{ap, sym, subst}
 use mathlib.Core.List.{List}
@@ -9,18 +9,18 @@ use Rattle.format.specs.Writer.{rates_from}
 use Rattle.output.specs.Cursor.{HasRoom}
 use Rattle.output.proofs.Parts.{left_start, left_room, left_more, left_none, wrote_same}
 use Rattle.writer.proofs.Links.{links_then, links_none}
-use Rattle.writer.proofs.put_links.Goals as goal
+use Rattle.writer.proofs.put_rates.Goals as goal
 
 pub loop-i-init : goal.loop-i-init
 loop-i-init c =
     left_start
     (subst (λ (cs : List Link). HasRoom c.args.to.now (length (encodes (rates_from 0 cs)))) (sym c.channels-channels.ensures.list) c.requires)
 
-pub put_link-requires-clause-room : goal.put_link-requires-clause-room
-put_link-requires-clause-room c = left_room c.loop-i.invariant (links_then c.channels-channels.result.now c.loop-i.i _ (omega arith))
+pub put_rates_of-requires-clause-room : goal.put_rates_of-requires-clause-room
+put_rates_of-requires-clause-room c = left_room c.loop-i.invariant (links_then c.channels-channels.result.now c.loop-i.i _ (omega arith))
 
 pub loop-i-preserved : goal.loop-i-preserved
-loop-i-preserved c = left_more c.loop-i.invariant (links_then c.channels-channels.result.now c.loop-i.i _ (omega arith)) c.put_link.ensures
+loop-i-preserved c = left_more c.loop-i.invariant (links_then c.channels-channels.result.now c.loop-i.i _ (omega arith)) c.put_rates_of.ensures
 
 pub returns : goal.returns
 unfolding encodes

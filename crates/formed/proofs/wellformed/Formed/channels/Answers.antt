@@ -7,7 +7,7 @@ use Rattle.graph.specs.Memory.{view, view_link}
 use Rattle.formed.specs.Formed.{ChannelFormed}
 use Rattle.format.proofs.Ranges.{formed_ranged}
 use Rattle.formed.proofs.Counts.{counts, channels_formed}
-use Rattle.formed.proofs.lists.Formed.channels.Goals as goal
+use Rattle.formed.proofs.wellformed.Formed.channels.Goals as goal
 
 pub shared_ref_as_front-result : goal.shared_ref_as_front-result
 shared_ref_as_front-result c = (counts _ c.self.invariant).few_channels

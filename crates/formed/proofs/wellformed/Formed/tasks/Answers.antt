@@ -4,7 +4,7 @@ use Rattle.graph.specs.Model.{Graph}
 use Rattle.graph.specs.Memory.{view}
 use Rattle.format.proofs.Ranges.{formed_ranged}
 use Rattle.formed.proofs.Counts.{counts}
-use Rattle.formed.proofs.lists.Formed.tasks.Goals as goal
+use Rattle.formed.proofs.wellformed.Formed.tasks.Goals as goal
 
 pub shared_ref_as_front-result : goal.shared_ref_as_front-result
 shared_ref_as_front-result c = (counts _ c.self.invariant).few_tasks

@@ -3,7 +3,7 @@ use native.Mathlib.Omega.{arith}
 use Rattle.format.specs.Record.{be, join}
 use Rattle.output.proofs.Parts.{wrote_then, wrote_same}
 use Rattle.writer.proofs.Numbers.{three_bytes, bytes_2}
-use Rattle.writer.proofs.U16Item.put.Goals as goal
+use Rattle.writer.proofs.EntryItem.put.Goals as goal
 
 pub returns : goal.returns
 unfolding be join

@@ -1,8 +1,8 @@
--- `writer::put_link` meets its contract: production and then consumption. Assumes nothing.
+-- `writer::put_rates_of` meets its contract: production and then consumption. Assumes nothing.
 use Rattle.graph.specs.Memory.{view_link}
 use Rattle.output.proofs.Parts.{room_first, room_then, wrote_both}
 use Rattle.writer.proofs.Links.{link_then}
-use Rattle.writer.proofs.put_link.Goals as goal
+use Rattle.writer.proofs.put_rates_of.Goals as goal
 
 pub put_side-requires-clause-room : goal.put_side-requires-clause-room
 put_side-requires-clause-room c = room_first (link_then c.args.i (view_link c.args.c.now)) c.args.to.now c.requires.room
