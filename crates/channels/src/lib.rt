@@ -78,6 +78,7 @@ impl<'a> Party<'a> {
     }
 
     // The tick in which job m is released.
+    // Kept: `m ≤ far` as a clause, here and in `end`, `passed`, `total` and `first_above`, since it is of each call's number.
     fn release(&self, m: u64) -> u64
         requires { m ≤ far }
         ensures { result ≡ release self.now m }
@@ -190,6 +191,7 @@ impl<'a> Party<'a> {
 
     // Whether some place of this giver's cycle makes the case short. The taker's job is given by its release and by what the jobs up to it want; both sides are multiplied by the giver's span, so all is whole.
     // `rest` is the end modulo the step, kept by addition.
+    // Kept: a `for` that hands back its answer, here and in `case_short`, since ticks go on from turn to turn, which a closure of `any` would have to change.
     fn row_short(&self, stock: u32, step: u64, tick: u64, wants: u64) -> bool
         requires some_step { 1 ≤ step }
         requires step_most { step ≤ max_cycle * million }

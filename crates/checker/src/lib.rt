@@ -34,6 +34,7 @@ fn task_tests(tasks: &Tasks, room: usize) -> Result<(), Refusal>
 }
 
 // Test 10: the relations.
+// Kept: that they are in range as a clause, since it is of the relations and of how many tasks there are.
 fn relation_tests(tasks: &Tasks, relations: &[Relation]) -> Result<(), Refusal>
     requires { All (RelationRange (length tasks.now)) relations.now }
     ensures { (room : ℕ) → Behind 10 11 room (λ g. (g.tasks ≡ tasks.now) × (g.relations ≡ relations.now)) result }
@@ -57,6 +58,7 @@ fn time_tests(tasks: &Tasks) -> Result<[u32; Graph::TASKS], Refusal>
 }
 
 // What a fault of a channel is told as.
+// Kept: a function, since `From` takes no channel.
 fn refusal_of(channel: usize, fault: Fault) -> Refusal
     ensures { rules.refusal channel (Err fault) ≡ Some result }
 {

@@ -43,6 +43,7 @@ fn push(side: &mut Side, part: u8, tokens: u16) -> Result<(), Test>
 }
 
 // A channel without rates.
+// Kept: a function for its one caller; `From` would have to stand in another crate.
 #[tactic(auto, unfolding(graph::specs::Memory::pad))]
 fn bare(head: &Head) -> Channel
     ensures { result ≡ laid_link (bare head.now.producer head.now.consumer head.now.initial head.now.size) }
@@ -80,6 +81,7 @@ fn store(graph: &mut Graph, record: &Record) -> Result<(), Test>
 }
 
 // The refusal where a test fires at a place.
+// Kept: a function, since `From` takes no place.
 fn refusal(test: Test, at: usize) -> Refusal
     ensures { result ≡ stop_reply (test_of test) at }
 {

@@ -50,7 +50,7 @@ fn equations(p: Times, q: Times, relation: &Relation) -> bool
     i64::from(relation.d) * i64::from(p.period) == n * i64::from(q.period) && left == right
 }
 
-// The relation holds among the tasks.
+// The relation holds among the tasks; where a number names none it does not.
 fn holds(tasks: &Tasks, relation: &Relation) -> bool
     requires { RelationRange (length tasks.now) relation.now }
     ensures { Of tasks.now (λ g. IsTrue result ↔ Holds g relation.now) }

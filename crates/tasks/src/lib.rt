@@ -62,6 +62,7 @@ fn seen(earlier: &[Task], task: &Task) -> bool
 }
 
 // Test 8: the first task whose priority was seen before.
+// Kept: by place, since each task is compared with those before it.
 pub fn same_priority(tasks: &[Task]) -> Option<usize>
     ensures { Of tasks.now (λ g. Finds (Repeats g) (length tasks.now) result) }
 {

@@ -83,7 +83,7 @@ fn put_all<T: Item>(items: &[T], to: &mut Cursor)
     }
 }
 
-// The records of one list of rates; side and part are numbers as in `Entry`.
+// The records of one list of rates. Kept: side and part are numbers as in `Entry`, here and below.
 fn put_list(list: &[u16], channel: u8, side: u8, part: u8, to: &mut Cursor)
     requires { HasRoom to.old (length (encodes (map (rate channel side part) list.now))) }
     ensures { Wrote to.old (encodes (map (rate channel side part) list.now)) to.new }
