@@ -8,13 +8,11 @@ use native.Mathlib.Numerals.{add-one}
 use native.Mathlib.Omega.{arith}
 use lib.ListN.{length}
 use Rattle.std.specs.Prelude.{sum_by, All, Option, Some, None}
-use Rattle.std.specs.Int.{div_ceil}
-use Rattle.std.proofs.lemmas.Grind.{div_ceil_times}
 use Rattle.std.proofs.lemmas.List.{length-append}
 use Rattle.std.proofs.lemmas.List.Elements.{All-push}
 use Rattle.std.proofs.lemmas.List.Sums.{sum_by-le, sum_by_push}
 use Rattle.numbers.specs.Numbers.{ceil}
-use Rattle.numbers.proofs.Sums.{cases, sum_suc, sum_zero, ceil_least, ceil_enough}
+use Rattle.numbers.proofs.Sums.{cases, sum_suc, sum_zero, ceil_least}
 use Rattle.machine.specs.Machine.{above, demand}
 use Rattle.graph.specs.declared.Task.{Task}
 use Rattle.graph.specs.Model.{Graph, count, task, task_of}
@@ -25,15 +23,6 @@ use Rattle.tasks.proofs.Given.{task_is}
 use Rattle.response.specs.declared.Rival.{Rival}
 use Rattle.response.specs.Rivals.{asked, hindrance, RivalRange, Searched}
 use Rattle.response.specs.Response.{Responds}
-
--- the library's quotient rounded up
-pub ceil_is : (w p : ℕ) → 1 ≤ p → div_ceil w p ≡ ceil w p
-ceil_is w p h =
-    let d = div_ceil_times w p h in
-    let least : ceil w p ≤ div_ceil w p = ceil_least w (div_ceil w p) h d.0 in
-    cases (div_ceil w p) (ceil w p) (λ l. omega arith) (λ l.
-    let more : (ceil w p + 1) * p ≤ div_ceil w p * p = mul-le-mul (omega arith) (le_refl p) in
-    absurd (omega (arith, more, d.1, ceil_enough w h)))
 
 -- no more jobs than ticks, each of at most a million ticks
 asked_most : (w : ℕ) (r : Rival) → RivalRange r → asked w r ≤ 1_000_000 * w
@@ -47,7 +36,7 @@ demand_fits own w rs small early few h =
     let most : length rs * (1_000_000 * w) ≤ 32 * (1_000_000 * 4_294_967_296) = mul-le-mul {n₂ = 32} {m₂ = 1_000_000 * 4_294_967_296} few (omega arith) in
     omega (arith, sum_by-le (asked w) (1_000_000 * w) rs (λ k d l. asked_most w _ (h k d l)), most)
 
-hindrance_more : (g : Graph) (i w j : ℕ) (b : Bool) → b ≡ above (machine g) i j
+pub hindrance_more : (g : Graph) (i w j : ℕ) (b : Bool) → b ≡ above (machine g) i j
     → hindrance g i (j + 1) w ≡ hindrance g i j w + cond b (cost g j * ceil w (task g j).period) 0
 unfolding hindrance
 hindrance_more g i w j b e = rw (add-one, e) (sum_suc _ j)
@@ -81,7 +70,7 @@ module _ (ts : List Task) (i : ℕ) (rs : List Rival) (j : ℕ) (s : Gathered ts
             omega (arith, s.hinder g e w, hindrance_more g i w j true (a g e), sum_by_push (asked w) rs one, same);
       }
 
-demand_is : (g : Graph) (i w : ℕ) → demand (machine g) i w ≡ cost g i + hindrance g i (count g) w
+pub demand_is : (g : Graph) (i w : ℕ) → demand (machine g) i w ≡ cost g i + hindrance g i (count g) w
 unfolding demand hindrance
 demand_is g i w = refl
 

@@ -1,4 +1,4 @@
-mod Hindrance
+pub mod Hindrance
 pub mod Once
-mod Figured
-mod Upwards
+pub mod Figured
+pub mod Upwards

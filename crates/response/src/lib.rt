@@ -4,7 +4,7 @@
 ghost use Rattle.std.specs.Prelude.{◌≡◌, ℕ, ◌+◌, ◌≤◌, ◌<◌, length, sum_by};
 ghost use Rattle.numbers.specs.Numbers.{ceil};
 ghost use Rattle.machine.specs.Machine.{above};
-ghost use Rattle.graph.specs.Model.{Graph as Model, count, task};
+ghost use Rattle.graph.specs.Model.{Graph as Model, million, count, task};
 ghost use Rattle.rules.specs.Given.{Of};
 ghost use Rattle.rules.specs.Terms.{machine};
 ghost use Rattle.response.specs.Rivals.{asked, hindrance, RivalRange, Searched};
@@ -42,18 +42,22 @@ impl Model for Rivals {
 }
 
 // The jobs of a period that are released within w ticks.
-#[tactic(auto, using(crate::proofs::Hindrance::ceil_is))]
+// Kept: the sum. `div_ceil` divides and looks at the rest, and a search then took an eighth longer.
+#[tactic(auto, unfolding(numbers::specs::Numbers::ceil))]
 fn jobs(w: u32, period: u32) -> u32
-    requires { 1 ≤ period }
+    requires small { w ≤ million }
+    requires some_period { 1 ≤ period }
+    requires period_most { period ≤ million }
     ensures { result ≡ ceil w period }
 {
-    w.div_ceil(period)
+    (w + (period - 1)) / period
 }
 
 impl Rival {
     // What its jobs ask for within w ticks.
     #[tactic(auto, unfolding(crate::specs::Rivals::asked))]
     fn asks(&self, w: u32) -> u64
+        requires small { w ≤ million }
         requires in_range { RivalRange self.now }
         ensures { result ≡ asked w self.now }
     {
@@ -90,6 +94,7 @@ fn rivals_of(tasks: &Tasks, i: usize) -> Rivals
 impl Rivals {
     // The demand at w of a task that costs `own`, over these rivals.
     fn demand(&self, own: u32, w: u32) -> u64
+        requires { w ≤ million }
         ensures { result ≡ own + sum_by (asked w) self.now }
     {
         u64::from(own) + self.list.iter().map(|rival| rival.asks(w)).sum::<u64>()
@@ -98,12 +103,15 @@ impl Rivals {
 
 // The least w from 1 to the limit whose demand is at most w.
 fn search(own: u32, limit: u32, rivals: &Rivals) -> Option<u32>
+    requires { limit ≤ million }
     ensures { Searched (λ w. own + sum_by (asked w) rivals.now) limit result }
 {
-    (1..=limit).find(|&w| rivals.demand(own, w) <= u64::from(w))
+    (1..limit + 1).find(|&w| rivals.demand(own, w) <= u64::from(w))
 }
 
 // The response of task i, or nothing where it is late.
+// Kept out of its callers, so that the search has the registers to itself.
+#[inline(never)]
 pub fn respond(tasks: &Tasks, i: usize) -> Option<u32>
     requires { i < length tasks.now }
     ensures { Of tasks.now (λ g. Responds g i result) }
