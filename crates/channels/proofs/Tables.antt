@@ -46,6 +46,52 @@ module _ (prefix cycle : List ℕ) where
         omega (arith, same, ap (rate_of prefix cycle) e, few (length prefix + d % n) (omega arith)))
         (few j)
 
+    module _ (sums : List ℕ) (tab : Tabled prefix cycle sums) where
+      pub total_most : (m : ℕ) → total timeless m ≤ 65535 * m
+      total_most m = omega (arith, total_bound timeless 65535 tab.few m)
+
+      pub rises : get_or sums (length prefix) 0 ≤ get_or sums (length prefix + length cycle) 0
+      rises =
+          omega (
+            arith,
+            tab.at (length prefix) (omega arith),
+            tab.at (length prefix + length cycle) (omega arith),
+            total_mono timeless (length prefix) (length prefix + length cycle) (omega arith),
+          )
+
+      pub turn_is : get_or sums (length prefix + length cycle) 0 - get_or sums (length prefix) 0 ≡ turn timeless
+      turn_is =
+          let one : length prefix + 1 * length cycle ≡ length prefix + length cycle = omega arith in
+          omega (
+            arith,
+            tab.at (length prefix) (omega arith),
+            tab.at (length prefix + length cycle) (omega arith),
+            ap (total timeless) one,
+            turns timeless plain (length prefix) 1 (omega arith),
+          )
+
+      pub turn_most : turn timeless ≤ 65535 * length cycle
+      turn_most =
+          let low = sum_mono (λ i. get_or cycle i 0) (λ _. 65535) (length cycle)
+          (λ j h. let k : ℕ = length prefix + j in let e : k - length prefix ≡ j = omega arith in omega (arith, tab.few k, entry_late k (omega arith) (omega arith), ap (λ x. get_or cycle x 0) e)) in
+          omega (arith, low, sum_const 65535 (length cycle))
+
+      -- past the prefix
+      pub folded :
+          (m : ℕ) → length prefix ≤ m
+          → get_or sums (length prefix + (m - length prefix) % length cycle) 0
+          + (m - length prefix) / length cycle * (get_or sums (length prefix + length cycle) 0 - get_or sums (length prefix) 0)
+          ≡ total timeless m
+      folded m h =
+          let n : ℕ = length cycle in
+          let r : ℕ = (m - length prefix) % n in
+          rw turn_is
+          (omega (
+            arith,
+            total_folded timeless plain m h,
+            tab.at (length prefix + r) (omega (arith, mod-lt (m - length prefix) {m = n} ok.some_rate)),
+          ))
+
   -- ---- filling the table: i places are filled
   pub record Filled (sums : List ℕ) (sum i : ℕ) : Type 0 where
     pub size : length sums ≡ 49
@@ -108,56 +154,17 @@ known {p} e k =
     subst (Known p) e
     record { period = refl; prefix = refl; cycle = refl; limited = k.limited; tabled = k.tabled }
 
-module _ {p : Inside} (k : Equipped p) where
-  abbrev s : Side
-  s = side_of p
+pub listed : {s : Side} → Limited s → Listed s.prefix s.cycle
+listed l = record { prefix_most = l.prefix_most; some_rate = l.some_rate; cycle_most = l.cycle_most }
 
-  pub total_most : (m : ℕ) → total s m ≤ 65535 * m
-  total_most m = omega (arith, total_bound s 65535 k.tabled.few m)
-
-  pub rises : get_or p.sums (length p.prefix.now) 0 ≤ get_or p.sums (length p.prefix.now + length p.cycle.now) 0
-  rises =
-      omega (
-        arith,
-        k.tabled.at (length s.prefix) (omega arith),
-        k.tabled.at (length s.prefix + length s.cycle) (omega arith),
-        total_mono s (length s.prefix) (length s.prefix + length s.cycle) (omega arith),
-      )
-
-  pub turn_is : get_or p.sums (length p.prefix.now + length p.cycle.now) 0 - get_or p.sums (length p.prefix.now) 0 ≡ turn s
-  turn_is =
-      let one : length s.prefix + 1 * length s.cycle ≡ length s.prefix + length s.cycle = omega arith in
-      omega (
-        arith,
-        k.tabled.at (length s.prefix) (omega arith),
-        k.tabled.at (length s.prefix + length s.cycle) (omega arith),
-        ap (total s) one,
-        turns s (sound k.limited) (length s.prefix) 1 (omega arith),
-      )
-
-  pub turn_most : turn s ≤ 65535 * length s.cycle
-  turn_most =
-      let low = sum_mono (λ i. get_or s.cycle i 0) (λ _. 65535) (length s.cycle)
-      (λ j h.
-      let i : ℕ = length s.prefix + j in
-      let e : i - length s.prefix ≡ j = omega arith in
-      omega (arith, k.tabled.few i, entry_late s.prefix s.cycle i (omega arith) (omega arith), ap (λ x. get_or s.cycle x 0) e)) in
-      omega (arith, low, sum_const 65535 (length s.cycle))
-
-  -- past the prefix
-  pub folded :
-      (m : ℕ) → length p.prefix.now ≤ m
-      → get_or p.sums (length p.prefix.now + (m - length p.prefix.now) % length p.cycle.now) 0
-      + (m - length p.prefix.now) / length p.cycle.now * turn s
-      ≡ total s m
-  folded m h =
-      let n : ℕ = length s.cycle in
-      let r : ℕ = (m - length s.prefix) % n in
-      omega (
-        arith,
-        total_folded s (sound k.limited) m h,
-        k.tabled.at (length s.prefix + r) (omega (arith, mod-lt (m - length s.prefix) {m = n} k.limited.some_rate)),
-      )
+-- past the prefix, with what a turn moves
+pub folded_turn : {p : Inside} (k : Equipped p) (m : ℕ) → length p.prefix.now ≤ m
+    → get_or p.sums (length p.prefix.now + (m - length p.prefix.now) % length p.cycle.now) 0
+    + (m - length p.prefix.now) / length p.cycle.now * turn (side_of p)
+    ≡ total (side_of p) m
+folded_turn {p} k m h =
+    let at : ℕ = length p.prefix.now + (m - length p.prefix.now) % length p.cycle.now in
+    subst (λ x. get_or p.sums at 0 + (m - length p.prefix.now) / length p.cycle.now * x ≡ total (side_of p) m) (turn_is _ _ (listed k.limited) _ k.tabled) (folded _ _ (listed k.limited) _ k.tabled m h)
 
 -- an entry of a part of the table
 pub part_is : {p : Inside} {s : Side} → Known p s → (from n i : ℕ) → i < n → from + i ≤ length s.prefix + length s.cycle

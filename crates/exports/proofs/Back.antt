@@ -18,7 +18,7 @@ use Rattle.reader.specs.declared.Reading.{Reading}
 use Rattle.reader.specs.Reading.{Gives, Parses}
 use Rattle.writer.specs.Writing.{Writes, no_file, short, wrote}
 use Rattle.writer.proofs.Writing.{one_file, file_back}
-use Rattle.exports.specs.Exports.{Rewrites, Rewritten}
+use Rattle.exports.specs.Exports.{Rewrites, Rewritten, Read}
 
 -- a reader's refusal is one of 1 to 7
 stop_number : (t : files.Test) (p : ℕ) → (1 ≤ number (Err (files.stop_reply t p))) × (number (Err (files.stop_reply t p)) ≤ 7)
@@ -34,7 +34,21 @@ refused_number files.no_task r e = subst (λ x. (1 ≤ number x) × (number x �
 refused_number (files.no_entry p) r e = subst (λ x. (1 ≤ number x) × (number x ≤ 7)) e (omega arith)
 refused_number (files.taken g) r e = absurd (cc)
 
+-- and its reply one of 0 to 7
+low : (a : files.Answer) → number (files.reply a) ≤ 7
+low (files.stopped t p) = (stop_number t p).1
+low files.no_task = omega arith
+low (files.no_entry p) = omega arith
+low (files.taken g) = omega arith
+
 module _ (file : List ℕ) where
+  -- what the C function `ghadibosh_read` hands back
+  pub read_number : (n p j : ℕ) → Read file n p j → n ≤ 7
+  read_number n p j r =
+      let e : number r.reading.reply ≡ n = ap (λ (x : Numbers). x.number) r.numbers in
+      let f : number r.reading.reply ≡ number (files.reply r.gives.answer) = ap number r.gives.reply in
+      omega (arith, low r.gives.answer)
+
   reads : (a : files.Answer) → files.Answers file a → number (files.reply a) ≡ 0 → ReadsAs file (laid (files.graph_of a))
   reads (files.stopped t p) m e = absurd (omega (arith, stop_number t p))
   reads files.no_task m e = absurd (omega arith)

@@ -1,2 +1,2 @@
-mod Signed
-mod Lookup
+pub mod Signed
+pub mod Lookup

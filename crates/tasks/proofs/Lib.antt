@@ -1,2 +1,2 @@
 pub mod Given
-mod Load
+pub mod Load

@@ -28,7 +28,7 @@ pub load_is : (g : Graph) → load g ≡ sum_by share g.tasks
 unfolding load share task
 load_is g = sym (sum_by_places share no_task g.tasks)
 
-share_most : (t : Task) → TaskRange t → share t ≤ 1_000_000 * 1_000_000
+pub share_most : (t : Task) → TaskRange t → share t ≤ 1_000_000 * 1_000_000
 unfolding share
 share_most t h = le_trans (div-le_self (cost_of t * 1_000_000) t.period) (mul-le-mul {n₂ = 1_000_000} {m₂ = 1_000_000} (omega arith) (omega arith))
 
