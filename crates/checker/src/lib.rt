@@ -124,10 +124,15 @@ fn all_tests(graph: &Formed, room: usize) -> Result<[u32; Graph::TASKS], Refusal
 fn judge(graph: &Formed, report: &mut [u32]) -> Reply
     ensures { Judges graph.now report.old result report.new }
 {
-    let figures = all_tests(graph, report.len())?;
-    let count = graph.tasks().len();
-    report[..count].copy_from_slice(&figures[..count]);
-    Ok(count)
+    match all_tests(graph, report.len()) {
+        Ok(figures) => {
+            let count = graph.tasks().len();
+            report[..count].copy_from_slice(&figures[..count]);
+            Ok(count)
+        }
+        // Kept: an arm of its own, so that an edit can put another reply there and leave the form as it is.
+        Err(refusal) => Err(refusal),
+    }
 }
 
 // The reply to a graph in memory, and R of each task in the report where it is accepted.
